@@ -1,0 +1,10 @@
+//! The road network: its parts, its rules, and its readers.
+#![tactic(auto)]
+
+mod net;
+mod parts;
+
+pub use net::Net;
+pub use parts::{
+    JunctionNo, JunctionPart, LinkNo, LinkPart, MovementNo, MovementPart, Name, NetParts, StageNo,
+};
