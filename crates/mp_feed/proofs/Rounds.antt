@@ -1,0 +1,190 @@
+-- A table of one round gives the split of any number of vehicles.
+use Rattle.std.proofs.Common.{◌≡◌, ◌==◌, ◌≤◌, ◌<◌, ℕ, zero, suc, ◌+◌, ◌*◌, ◌/◌, ◌%◌, Bool, true, false, cond, List, [], ◌∷◌, ◌++◌, length, get_or, sum, sum_by, map, slice_index, ℤ, ◌<ℤ◌, ◌≤ℤ◌, int_lt, arith, refl, sym, ◌∙◌, ap, ap₂, add-one, eq-eqb, ne_eqb, subst, set, mul-le-mul, ◌⊎◌, inl, inr, ⊎_elim, le_refl, ◌^◌}
+use Rattle.std.proofs.lemmas.Bool.{cases_lt}
+use Rattle.std.specs.List.{range_with_len, AllByRecursion, best_of, All}
+use Rattle.std.proofs.lemmas.Int.{ints}
+use Rattle.std.proofs.lemmas.Nat.{div-add-mod'}
+use Rattle.std.proofs.lemmas.List.Sums.{fold_push}
+use Rattle.std.proofs.lemmas.List.FromFn.{get_or-map-range_with_len}
+use Rattle.std.proofs.lemmas.List.{get_or_at, length-append, append_assoc}
+use Rattle.std.proofs.lemmas.List.Sums.{sum_by-cons, get_or-le-sum_by}
+use Rattle.std.proofs.lemmas.Grind.{common_steps}
+use Rattle.std.proofs.lemmas.List.FromFn.{length-map-range_with_len}
+use Rattle.std.proofs.Math.Nat.{mod_self, mod-eq_of_lt, mod-add-mod}
+use borrow.Author.Differences.{true_is_lt, false_is_lt}
+use Rattle.mp_model.specs.Split.{first_greatest, credit_of}
+use Rattle.mp_laws.proofs.Credits.{first_in, first_agree, again, some_length}
+use Rattle.mp_laws.proofs.Margin.{AllOf-map}
+use Rattle.mp_laws.proofs.Greatest.{in_range, at_range}
+use Rattle.mp_laws.proofs.Distinct.{range_distinct}
+use Rattle.mp_feed.specs.Counts.{counts, joins, gained, places_of}
+
+range_more : (a n b : ℕ) → a + n ≡ b → range_with_len a (suc n) ≡ range_with_len a n ++ b ∷ []
+range_more a zero b e = let s : a ≡ b = omega arith in ap (λ x. x ∷ []) s
+range_more a (suc n) b e = ap (λ xs. a ∷ xs) (range_more (a + 1) n b (omega arith))
+
+-- one more key of a loop for the greatest
+pub greatest_more : (key : ℕ → ℤ) (i best : ℕ) → 0 < i → best ≡ first_greatest key (range_with_len 0 i) → first_greatest key (range_with_len 0 (i + 1)) ≡ cond (int_lt (key best) (key i)) i best
+greatest_more key zero best h e = absurd (omega arith)
+greatest_more key (suc n) best h e =
+    rw (add-one (suc n)) (ap (λ xs. best_of (λ x b. int_lt (key b) (key x)) 0 xs) (range_more 1 n (suc n) (omega arith))
+    ∙ fold_push (λ b x. cond (int_lt (key b) (key x)) x b) 0 (range_with_len 1 n) (suc n)
+    ∙ ap (λ b. cond (int_lt (key b) (key (suc n))) (suc n) b) (sym e))
+
+pub takes : (key : ℕ → ℤ) (i best : ℕ) → 0 < i → best ≡ first_greatest key (range_with_len 0 i) → key best <ℤ key i → i ≡ first_greatest key (range_with_len 0 (i + 1))
+takes key i best h e lt = let t : int_lt (key best) (key i) ≡ true = sym (true_is_lt (key best) (key i) (omega (arith, ints))) in sym (greatest_more key i best h e ∙ ap (λ b. cond b i best) t)
+
+pub keeps : (key : ℕ → ℤ) (i best : ℕ) → 0 < i → best ≡ first_greatest key (range_with_len 0 i) → key i ≤ℤ key best → best ≡ first_greatest key (range_with_len 0 (i + 1))
+keeps key i best h e le = let t : int_lt (key best) (key i) ≡ false = sym (false_is_lt (key best) (key i) (omega (arith, ints))) in sym (greatest_more key i best h e ∙ ap (λ b. cond b i best) t)
+
+-- a sum by places is the sum of the list
+places_sum : (front xs : List ℕ) (n : ℕ) → n ≡ length front → sum_by (slice_index (front ++ xs)) (range_with_len n (length xs)) ≡ sum xs
+places_sum front [] n e = refl
+places_sum front (x ∷ xs) n e =
+    let here : get_or (front ++ x ∷ xs) n 0 ≡ x = get_or_at front x xs 0 n (sym e) in
+    let size : n + 1 ≡ length (front ++ x ∷ []) = omega (arith, length-append front (x ∷ [])) in
+    let rest = subst (λ ys. sum_by (slice_index ys) (range_with_len (n + 1) (length xs)) ≡ sum xs) (append_assoc front (x ∷ []) xs) (places_sum (front ++ x ∷ []) xs (n + 1) size) in
+    sum_by-cons (slice_index (front ++ x ∷ xs)) n (range_with_len (n + 1) (length xs)) ∙ ap₂ ◌+◌ here rest ∙ sym (sum_by-cons (λ y. y) x xs)
+
+pub sum_places : (xs : List ℕ) → sum_by (slice_index xs) (places_of xs) ≡ sum xs
+sum_places xs = places_sum [] xs 0 refl
+
+module _ (shares : List ℕ) (some : 1 ≤ sum shares) where
+  few : 1 ≤ length (places_of shares)
+  few = some_length (slice_index shares) (places_of shares) (omega (arith, sum_places shares))
+
+  -- the next vehicle joins one of the shares
+  pub joins_within : (n : ℕ) → joins shares n < length shares
+  joins_within n =
+      let i = in_range 0 (length shares) (joins shares n) (first_in (λ i. credit_of (sum shares) (slice_index shares i) (suc n) (counts shares n i)) (places_of shares) few) in
+      omega (arith, i)
+
+  -- after m whole rounds the counts grow as at the start
+  pub rounds : (m r i : ℕ) → i < length shares → counts shares (m * sum shares + r) i ≡ slice_index shares i * m + counts shares r i
+  rounds m r i h = at_range (λ i. counts shares (m * sum shares + r) i ≡ slice_index shares i * m + counts shares r i) 0 (length shares) i (omega arith) (omega arith)
+      (again (sum shares) (slice_index shares) (places_of shares) (sum_places shares) some (range_distinct 0 (length shares)) m r)
+
+  key_step : (total m w r s u : ℕ) → s ≡ w * m + u → credit_of total w (suc (m * total + r)) s ≡ credit_of total w (suc r) u
+  key_step total m w r s u e = omega (arith, ints, ap (λ t. total * t) e)
+
+  -- and the share that is joined goes by the phase
+  pub joins_again : (m r : ℕ) → joins shares (m * sum shares + r) ≡ joins shares r
+  joins_again m r = first_agree _ _ (places_of shares)
+      (AllOf-map (λ i. counts shares (m * sum shares + r) i ≡ slice_index shares i * m + counts shares r i) (λ i. credit_of (sum shares) (slice_index shares i) (suc (m * sum shares + r)) (counts shares (m * sum shares + r) i) ≡ credit_of (sum shares) (slice_index shares i) (suc r) (counts shares r i))
+      (λ i e. key_step (sum shares) m (slice_index shares i) r (counts shares (m * sum shares + r) i) (counts shares r i) e) (places_of shares)
+      (again (sum shares) (slice_index shares) (places_of shares) (sum_places shares) some (range_distinct 0 (length shares)) m r))
+
+  pub joins_phase : (n : ℕ) → joins shares n ≡ joins shares (n % sum shares)
+  joins_phase n = ap (joins shares) (sym (div-add-mod' n (sum shares))) ∙ joins_again (n / sum shares) (n % sum shares)
+
+-- one more vehicle
+pub counts_more : (shares : List ℕ) (n i : ℕ) → counts shares (n + 1) i ≡ counts shares n i + cond (joins shares n == i) 1 0
+counts_more shares n i = ap (λ t. counts shares t i) (add-one n)
+
+same_or_not : (a b : ℕ) → (a ≡ b) ⊎ (a ≡ b → ⊥)
+same_or_not a b = ⊎_elim (λ (l : a < b). inr (λ e. omega arith)) (λ (g : b ≤ a). ⊎_elim (λ (l : b < a). inr (λ e. omega arith)) (λ (g' : a ≤ b). inl (omega arith)) (cases_lt b a)) (cases_lt a b)
+
+all_range : (P : ℕ → Type 0) (a n : ℕ) → ((x : ℕ) → a ≤ x → x < a + n → P x) → AllByRecursion P (range_with_len a n)
+all_range P a zero each = tt
+all_range P a (suc n) each = (each a (omega arith) (omega arith), all_range P (a + 1) n (λ x h l. each x (omega arith) (omega arith)))
+
+-- the code's search finds the share that joins
+pub joins_from : (shares cs : List ℕ) (total n : ℕ) → total ≡ sum shares → ((k : ℕ) → k < length shares → slice_index cs k ≡ counts shares n k) →
+    first_greatest (λ i. credit_of total (slice_index shares i) (n + 1) (slice_index cs i)) (places_of shares) ≡ joins shares n
+joins_from shares cs total n e each = first_agree _ _ (places_of shares)
+    (all_range (λ i. credit_of total (slice_index shares i) (n + 1) (slice_index cs i) ≡ credit_of (sum shares) (slice_index shares i) (suc n) (counts shares n i)) 0 (length shares)
+    (λ i h l. ap₂ (λ t m. credit_of t (slice_index shares i) m (slice_index cs i)) e (add-one n) ∙ ap (credit_of (sum shares) (slice_index shares i) (suc n)) (each i (omega arith))))
+
+pub counts_here : (shares : List ℕ) (n i c : ℕ) → joins shares n ≡ i → c ≡ counts shares n i → c + 1 ≡ counts shares (n + 1) i
+counts_here shares n i c j e = let t : cond {A = ℕ} (joins shares n == i) 1 0 ≡ 1 = ap {B = ℕ} (λ b. cond b 1 0) (eq-eqb (joins shares n) i j) in omega (arith, counts_more shares n i)
+
+pub counts_other : (shares : List ℕ) (n i c : ℕ) → (joins shares n ≡ i → ⊥) → c ≡ counts shares n i → c ≡ counts shares (n + 1) i
+counts_other shares n i c j e = let t : cond {A = ℕ} (joins shares n == i) 1 0 ≡ 0 = ap {B = ℕ} (λ b. cond b 1 0) (ne_eqb (joins shares n) i j) in omega (arith, counts_more shares n i)
+
+-- a count at the place rises
+pub counts_set : (shares cs : List ℕ) (n place v : ℕ) → length cs ≡ length shares → place < length shares → place ≡ joins shares n → v ≡ get_or cs place 0 → ((k : ℕ) → k < length shares → slice_index cs k ≡ counts shares n k) →
+    (k : ℕ) → k < length shares → slice_index (set cs place (v + 1)) k ≡ counts shares (n + 1) k
+counts_set shares cs n place v size within is read each k h = ⊎_elim
+    (λ (e : place ≡ k). let s : slice_index (set cs place (v + 1)) k ≡ v + 1 = grind (arith, common_steps) in
+    s ∙ counts_here shares n k v (sym is ∙ e) (read ∙ ap (slice_index cs) e ∙ each k h))
+    (λ (d : place ≡ k → ⊥). let s : slice_index (set cs place (v + 1)) k ≡ slice_index cs k = grind (arith, common_steps) in
+    s ∙ counts_other shares n k (slice_index cs k) (λ e. d (is ∙ e)) (each k h))
+    (same_or_not place k)
+
+pub few_set : (cs : List ℕ) (n m place v : ℕ) → length cs ≡ m → v ≡ get_or cs place 0 → place < m → ((k : ℕ) → k < m → slice_index cs k ≤ n) → (k : ℕ) → k < m → slice_index (set cs place (v + 1)) k ≤ n + 1
+few_set cs n m place v size read within each k h = ⊎_elim
+    (λ (e : place ≡ k). let s : slice_index (set cs place (v + 1)) k ≡ v + 1 = grind (arith, common_steps) in omega (arith, each place within))
+    (λ (d : place ≡ k → ⊥). let s : slice_index (set cs place (v + 1)) k ≡ slice_index cs k = grind (arith, common_steps) in omega (arith, each k h))
+    (same_or_not place k)
+
+-- a table
+pub table_len : (shares places : List ℕ) (total : ℕ) → places ≡ map (joins shares) (range_with_len 0 total) → length places ≡ total
+table_len shares places total e = ap length e ∙ length-map-range_with_len (joins shares) 0 total
+
+pub table_at : (shares places : List ℕ) (total p : ℕ) → places ≡ map (joins shares) (range_with_len 0 total) → p < total → get_or places p 0 ≡ joins shares p
+table_at shares places total p e h = ap (λ t. get_or t p 0) e ∙ get_or-map-range_with_len (joins shares) 0 total p p 0 h (omega arith)
+
+pub mod_wraps : (at total : ℕ) → at + 1 ≡ total → 0 ≡ (at + 1) % total
+mod_wraps at total e = sym (ap (λ t. t % total) e ∙ mod_self total)
+
+pub mod_stays : (at total : ℕ) → at + 1 < total → at + 1 ≡ (at + 1) % total
+mod_stays at total h = sym (mod-eq_of_lt h)
+
+pub mod_next : (at phase step total : ℕ) → at ≡ (phase + step) % total → (at + 1) % total ≡ (phase + (step + 1)) % total
+mod_next at phase step total e = ap (λ t. (t + 1) % total) e ∙ mod-add-mod (phase + step) total 1 ∙ ap (λ t. t % total) (shift phase step)
+  where
+    shift : (phase step : ℕ) → phase + step + 1 ≡ phase + (step + 1)
+    shift phase step = omega arith
+
+pub mod_whole : (phase n total : ℕ) → (phase + n % total) % total ≡ (phase + n) % total
+mod_whole phase n total = ap (λ t. t % total) (turn phase (n % total)) ∙ mod-add-mod n total phase ∙ ap (λ t. t % total) (turn n phase)
+  where
+    turn : (a b : ℕ) → a + b ≡ b + a
+    turn a b = omega arith
+
+-- what was gained in all
+pub gained_is : (shares : List ℕ) → 1 ≤ sum shares → (total phase n i g : ℕ) → sum shares ≡ total → i < length shares → g + counts shares phase i ≡ slice_index shares i * (n / total) + counts shares (phase + n % total) i → g ≡ gained shares phase n i
+gained_is shares some total phase n i g e h is =
+    let m = n / total in
+    let r = rounds shares some m (phase + n % total) i h in
+    let s : m * sum shares + (phase + n % total) ≡ phase + n = omega (arith, ap (λ t. m * t) e, div-add-mod' n total) in
+    let c : counts shares (m * sum shares + (phase + n % total)) i ≡ counts shares (phase + n) i = ap (λ t. counts shares t i) s in
+    omega arith
+
+pub counts_few : (shares : List ℕ) (n i : ℕ) → counts shares n i ≤ n
+counts_few shares zero i = omega arith
+counts_few shares (suc n) i = omega (arith, counts_few shares n i, cond_few (joins shares n == i))
+  where
+    cond_few : (b : Bool) → cond {A = ℕ} b 1 0 ≤ 1
+    cond_few true = omega arith
+    cond_few false = omega arith
+
+pub beats_key : (W n w o c oc : ℕ) → o * n + W * c < w * n + W * oc → credit_of W o n oc <ℤ credit_of W w n c
+beats_key W n w o c oc h = omega (arith, ints)
+
+pub keeps_key : (W n w o c oc : ℕ) → w * n + W * oc ≤ o * n + W * c → credit_of W w n c ≤ℤ credit_of W o n oc
+keeps_key W n w o c oc h = omega (arith, ints)
+
+pub length-le-sum : (xs : List ℕ) → AllByRecursion (λ w. 1 ≤ w) xs → length xs ≤ sum xs
+length-le-sum [] h = omega arith
+length-le-sum (x ∷ xs) h = omega (arith, sum_by-cons (λ y. y) x xs, length-le-sum xs h.1, h.0)
+
+pub each_few : (xs : List ℕ) → sum xs ≤ 1000 → All (λ w. w ≤ 1000) xs
+each_few xs h i d l = omega (arith, get_or-le-sum_by (λ y. y) xs i d l)
+
+-- one more place of a walk
+pub gains_set : (shares got : List ℕ) (base before : ℕ → ℕ) (n place : ℕ) → length got ≡ length shares → place < length shares → place ≡ joins shares n → ((k : ℕ) → k < length shares → slice_index got k + before k ≡ base k + counts shares n k) →
+    (k : ℕ) → k < length shares → slice_index (set got place (slice_index got place + 1)) k + before k ≡ base k + counts shares (n + 1) k
+gains_set shares got base before n place size within is each k h = ⊎_elim
+    (λ (e : place ≡ k). let s : slice_index (set got place (slice_index got place + 1)) k ≡ slice_index got place + 1 = grind (arith, common_steps) in
+    let t : slice_index got place ≡ slice_index got k = ap (slice_index got) e in
+    omega (arith, each k h, counts_here shares n k (counts shares n k) (sym is ∙ e) refl))
+    (λ (d : place ≡ k → ⊥). let s : slice_index (set got place (slice_index got place + 1)) k ≡ slice_index got k = grind (arith, common_steps) in
+    omega (arith, each k h, counts_other shares n k (counts shares n k) (λ e. d (is ∙ e)) refl))
+    (same_or_not place k)
+
+pub round_few : (w m : ℕ) → w ≤ 1000 → m ≤ 2 ^ 32 → w * m ≤ 1000 * 2 ^ 32
+round_few w m h k = mul-le-mul h k
+
+pub div_few : (n total : ℕ) → 1 ≤ total → n / total ≤ n
+div_few n total h = omega (arith, mul-le-mul h (le_refl (n / total)))
