@@ -1,0 +1,4 @@
+pub mod CuttingLemmas
+pub mod Filling
+pub mod Lines
+pub mod RawLines

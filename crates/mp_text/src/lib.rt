@@ -1,0 +1,12 @@
+//! Lines off a source, counts, digits, and a sink over a fixed buffer.
+#![tactic(auto)]
+
+mod counts;
+mod cutter;
+mod line_sink;
+mod put;
+
+pub use counts::read_count;
+pub use cutter::{LineCutter, LineStep};
+pub use line_sink::LineSink;
+pub use put::{put_number, put_text};
