@@ -47,8 +47,12 @@ abbrev pub period_lines : Network → List (List ℕ) → List (List ℕ)
 period_lines net A = lines_from net (opening net) A
 
 -- The end line gives the number of periods, how many vehicles entered, how many departed, and how many are queued.
+abbrev pub end_line_of : ℕ → ℕ → ℕ → ℕ → List ℕ
+end_line_of period total_in total_out queued = codes "end " ++ decimal period ++ codes " in " ++ decimal total_in ++ codes " out " ++ decimal total_out ++ codes " queued " ++ decimal queued
+
+-- This is the end line after a state.
 abbrev pub end_line : Network → State → List ℕ
-end_line net state = codes "end " ++ decimal state.period ++ codes " in " ++ decimal state.total_in ++ codes " out " ++ decimal state.total_out ++ codes " queued " ++ decimal (queued net state)
+end_line net state = end_line_of state.period state.total_in state.total_out (queued net state)
 
 -- The lines of a log without slack and bounds are the first line, a line per period of the run, and the end line.
 abbrev pub plain_log_lines : Network → List (List ℕ) → List (List ℕ)

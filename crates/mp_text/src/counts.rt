@@ -1,5 +1,5 @@
 //! Counts: `0`, or 1 to 9 digits without a leading zero.
-ghost use Rattle.std.specs.Prelude.{◌≡◌, ◌≤◌, length, true};
+ghost use Rattle.std.specs.Prelude.{◌≡◌, ◌≤◌, ◌<◌, ◌^◌, length, true, IfSome};
 ghost use Rattle.std.specs.List.{list_all};
 ghost use Rattle.std.specs.Str.Parse.{digits_value};
 ghost use Rattle.mp_model.specs.Stream.{is_digit, is_plain, count_of};
@@ -24,7 +24,8 @@ fn is_plain(bytes: &[u8]) -> bool
 fn value_of(digits: &[u8]) -> u64
     requires few { length digits.now ≤ 9 }
     requires digits { list_all is_digit digits.now ≡ true }
-    ensures { result ≡ digits_value 10 digits.now }
+    ensures value { result ≡ digits_value 10 digits.now }
+    ensures few { result < 10 ^ 9 }
 {
     let mut number = 0u64;
     for digit in digits {
@@ -35,7 +36,8 @@ fn value_of(digits: &[u8]) -> u64
 
 /// The number of a count, or `None` where the bytes are none.
 pub fn read_count(bytes: &[u8]) -> Option<u64>
-    ensures { result ≡ count_of bytes.now }
+    ensures value { result ≡ count_of bytes.now }
+    ensures few { IfSome result (λ n. n < 10 ^ 9) }
 {
     if is_plain(bytes) && are_digits(bytes) && bytes.len() <= 9 {
         Some(value_of(bytes))

@@ -1,0 +1,4 @@
+pub mod BlankLemmas
+pub mod CountLemmas
+pub mod KindLemmas
+pub mod LengthLemmas

@@ -1,0 +1,11 @@
+//! The lines of a log, and the lines of a stream.
+#![tactic(auto)]
+
+mod end;
+mod line;
+mod period;
+mod stream_line;
+
+pub use end::put_end;
+pub use period::put_period;
+pub use stream_line::{StreamLine, read_line};
