@@ -257,8 +257,9 @@ mod tests {
             (0, 20, false, false, Err(Failed), Err(Failed), 0, 0),
             (20, 20, true, true, Err(Failed), Err(Failed), 12, 2),
         ];
-        for (i, (left, piece, closed, flush_fails, first, second, moved, flushes)) in
-            rows.iter().enumerate()
+        for (i, (left, piece, closed, flush_fails, first, second, moved, flushes)) in rows
+            .iter()
+            .enumerate()
         {
             let mut sink = StdSink::new(Pipe::new(*left, *piece, *closed, *flush_fails));
             assert_eq!(rt; sink.put(b"abcdef"), *first, "in row {i}");
