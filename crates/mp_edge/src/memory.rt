@@ -271,3 +271,78 @@ impl Store for MemStore {
         Ok(())
     }
 }
+
+#[cfg(test)]
+mod tests {
+    use super::*;
+    use std::test::Fail;
+
+    #[test]
+    fn source_gives_pieces_and_fails_where_listed(rt: HostRuntime) -> Result<(), Fail> {
+        let mut source = MemSource::new(rt.alloc(), b"abcdefgh", 3, &[2, 5, 5])?;
+        let mut buf = [0u8; 8];
+        let rows: [(usize, Result<&str, Failed>); 7] = [
+            (8, Ok("abc")),
+            (8, Err(Failed)),
+            (2, Ok("de")),
+            (3, Ok("fgh")),
+            (3, Err(Failed)),
+            (3, Ok("")),
+            (8, Ok("")),
+        ];
+        for (i, (room, want)) in rows.iter().enumerate() {
+            let taken = source.take(&mut buf[..*room]);
+            assert_eq!(rt; taken, want.map(|bytes| bytes.len()), "in call {i}");
+            if let Ok(text) = want {
+                assert_eq!(rt; buf[..text.len()], *text.as_bytes(), "in call {i}");
+            }
+        }
+        assert_eq!(rt; source.faults, 2);
+        Ok(())
+    }
+
+    #[test]
+    fn sink_keeps_what_entries_and_room_allow(rt: HostRuntime) -> Result<(), Fail> {
+        let mut sink = MemSink::new(rt.alloc(), 5, &[(2, 2), (2, 9), (4, 9)])?;
+        let rows = [
+            ("ab", Ok(()), "ab"),
+            ("cde", Err(Failed), "abcd"),
+            ("xy", Err(Failed), "abcd"),
+            ("efg", Err(Failed), "abcde"),
+            ("", Ok(()), "abcde"),
+            ("h", Err(Failed), "abcde"),
+        ];
+        for (bytes, want, held) in rows {
+            assert_eq!(rt; sink.put(bytes.as_bytes()), want, "at {bytes}");
+            assert_eq!(rt; sink.bytes(), held.as_bytes(), "at {bytes}");
+        }
+        assert_eq!(rt; sink.faults, 4);
+        Ok(())
+    }
+
+    #[test]
+    fn store_reads_the_first_file_of_a_name(rt: HostRuntime) -> Result<(), Fail> {
+        let alloc = rt.alloc();
+        let mut files = Vec::new(alloc);
+        for (name, bytes) in [("net", "one"), ("cert", "four"), ("net", "twice")] {
+            let name = String::from_str(alloc, name)?;
+            files.push((name, Vec::from_slice(alloc, bytes.as_bytes())?))?;
+        }
+        let mut store = MemStore::new(alloc, files, &[2])?;
+        let rows = [
+            ("net", 3, Ok(()), "one"),
+            ("net", 3, Err(StoreFault::Failed), ""),
+            ("net", 3, Ok(()), "one"),
+            ("cert", 3, Err(StoreFault::TooLong), ""),
+            ("cert", 4, Ok(()), "four"),
+            ("vector", 9, Err(StoreFault::Failed), ""),
+        ];
+        for (name, most, want, text) in rows {
+            let mut into = Vec::new(alloc);
+            assert_eq!(rt; store.read(alloc, name, &mut into, most), want, "at {name}");
+            assert_eq!(rt; into.as_slice(), text.as_bytes(), "at {name}");
+        }
+        assert_eq!(rt; store.faults, 2);
+        Ok(())
+    }
+}

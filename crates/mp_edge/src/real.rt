@@ -162,3 +162,144 @@ impl<R: Files + Drop> Store for FileStore<R> {
         Err(fault)
     }
 }
+
+#[cfg(test)]
+mod tests {
+    use super::*;
+    use std::test::Fail;
+    use std::{env, process};
+
+    // A reader or writer of `left` bytes, at most `piece` a call. Behind them it is closed, or takes and gives nothing.
+    #[derive(Drop)]
+    struct Pipe {
+        left: usize,
+        piece: usize,
+        closed: bool,
+        flush_fails: bool,
+        moved: usize,
+        flushes: u8,
+    }
+
+    impl Pipe {
+        fn new(left: usize, piece: usize, closed: bool, flush_fails: bool) -> Pipe {
+            Pipe {
+                left,
+                piece,
+                closed,
+                flush_fails,
+                moved: 0,
+                flushes: 0,
+            }
+        }
+
+        fn pass(&mut self, len: usize) -> io::Result<usize>
+            ensures { IfOk result (λ n. n ≤ len) }
+        {
+            let count = self.piece.min(self.left).min(len);
+            if count == 0 && self.closed {
+                return Err(ErrorKind::BrokenPipe.into());
+            }
+            self.left -= count;
+            self.moved = self.moved.saturating_add(count);
+            Ok(count)
+        }
+    }
+
+    impl Read for Pipe {
+        fn read(&mut self, buf: &mut [u8]) -> io::Result<usize> {
+            self.pass(buf.len())
+        }
+    }
+
+    impl Write for Pipe {
+        fn write(&mut self, buf: &[u8]) -> io::Result<usize> {
+            self.pass(buf.len())
+        }
+
+        fn flush(&mut self) -> io::Result<()> {
+            self.flushes = self.flushes.saturating_add(1);
+            if self.flush_fails {
+                return Err(ErrorKind::BrokenPipe.into());
+            }
+            Ok(())
+        }
+    }
+
+    #[test]
+    fn source_counts_errors(rt: HostRuntime) {
+        let mut source = StdSource::new(Pipe::new(5, 3, true, false));
+        let mut buf = [0u8; 4];
+        for (i, want) in [Ok(3), Ok(2), Err(Failed), Err(Failed)].iter().enumerate() {
+            assert_eq!(rt; source.take(&mut buf), *want, "in call {i}");
+        }
+        assert_eq!(rt; source.faults, 2);
+        let mut ended = StdSource::new(Pipe::new(0, 3, false, false));
+        assert_eq!(rt; ended.take(&mut buf), Ok(0));
+        assert_eq!(rt; ended.faults, 0);
+        let mut whole = StdSource::new(b"abcdef".as_slice());
+        for (i, want) in ["abcd", "ef", ""].iter().enumerate() {
+            assert_eq!(rt; whole.take(&mut buf), Ok(want.len()), "in call {i}");
+            assert_eq!(rt; buf[..want.len()], *want.as_bytes(), "in call {i}");
+        }
+    }
+
+    // Each row puts six bytes twice: what the writer has room for, its piece, whether it is closed behind the room,
+    // whether its flush fails; then both answers, the bytes written and the flushes.
+    #[test]
+    fn sink_writes_all_and_flushes(rt: HostRuntime) {
+        let rows = [
+            (20, 20, true, false, Ok(()), Ok(()), 12, 2),
+            (20, 4, true, false, Ok(()), Ok(()), 12, 2),
+            (12, 5, false, false, Ok(()), Ok(()), 12, 2),
+            (8, 20, false, false, Ok(()), Err(Failed), 8, 1),
+            (8, 3, true, false, Ok(()), Err(Failed), 8, 1),
+            (0, 20, true, false, Err(Failed), Err(Failed), 0, 0),
+            (0, 20, false, false, Err(Failed), Err(Failed), 0, 0),
+            (20, 20, true, true, Err(Failed), Err(Failed), 12, 2),
+        ];
+        for (i, (left, piece, closed, flush_fails, first, second, moved, flushes)) in rows
+            .iter()
+            .enumerate()
+        {
+            let mut sink = StdSink::new(Pipe::new(*left, *piece, *closed, *flush_fails));
+            assert_eq!(rt; sink.put(b"abcdef"), *first, "in row {i}");
+            assert_eq!(rt; sink.put(b"ghijkl"), *second, "in row {i}");
+            let faults = first.is_err() as u64 + second.is_err() as u64;
+            assert_eq!(rt; sink.faults, faults, "in row {i}");
+            assert_eq!(rt; sink.writer.moved, *moved, "in row {i}");
+            assert_eq!(rt; sink.writer.flushes, *flushes, "in row {i}");
+        }
+    }
+
+    #[test]
+    fn store_reads_files_of_the_system(rt: HostRuntime) -> Result<(), Fail> {
+        let alloc = rt.alloc();
+        let folder = env::temp_dir(&rt)?;
+        let number = process::id(rt.process());
+        let long = format!(in alloc; "{}/mp_edge_{number}", folder.display())?;
+        let missing = format!(in alloc; "{}_missing", long.as_str())?;
+        let bytes = [7u8; 10_000];
+        fs::write(&rt, long.as_str(), bytes.as_slice())?;
+        let mut store = FileStore::new(rt);
+        let rows = [
+            (long.as_str(), 10_000, Ok(()), 10_000),
+            (long.as_str(), 9_999, Err(StoreFault::TooLong), 0),
+            (long.as_str(), 0, Err(StoreFault::TooLong), 0),
+            (missing.as_str(), 10_000, Err(StoreFault::Failed), 0),
+            (long.as_str(), usize::MAX, Ok(()), 10_000),
+        ];
+        for (name, most, want, len) in rows {
+            let mut into = Vec::new(alloc);
+            assert_eq!(rt; store.read(alloc, name, &mut into, most), want, "at {most}");
+            assert_eq!(rt; into.as_slice(), &bytes[..len], "at {most}");
+        }
+        assert_eq!(rt; store.faults, 1);
+
+        // A file opened for reading takes no bytes.
+        let mut closed = StdSink::new(fs::open(&rt, long.as_str())?);
+        assert_eq!(rt; closed.put(b"ab"), Err(Failed));
+        assert_eq!(rt; closed.faults, 1);
+        fs::remove_file(&rt, long.as_str())?;
+        Ok(())
+    }
+}
