@@ -1,2 +1,10 @@
 pub mod Parts
 pub mod Tables
+pub mod Spots
+pub mod NumberRules
+pub mod RepeatRules
+pub mod LinkRules
+pub mod StageRules
+pub mod WayRules
+pub mod Rules
+pub mod Refused
