@@ -1,5 +1,6 @@
 pub mod Parts
 pub mod Tables
+pub mod Small
 pub mod Spots
 pub mod NumberRules
 pub mod RepeatRules

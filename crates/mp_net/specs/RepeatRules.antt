@@ -23,10 +23,13 @@ abbrev pub repeats_movement : Network → List ℕ → Bool
 repeats_movement net [] = false
 repeats_movement net (k ∷ ks) = (movement_is_there net k && has ks k) || repeats_movement net ks
 
+-- An earlier junction has the name of junction j.
+abbrev pub junction_name_is_repeated : Network → ℕ → Bool
+junction_name_is_repeated net j = list_any (λ i. bytes_eq (junction_at net i).name (junction_at net j).name) (numbers_to (j - 1))
+
 -- An earlier junction has the name of junction j, or a stage of j names a movement twice.
 abbrev pub junction_is_repeated : Network → ℕ → Bool
-junction_is_repeated net j =
-    list_any (λ i. bytes_eq (junction_at net i).name (junction_at net j).name) (numbers_to (j - 1)) || list_any (repeats_movement net) (junction_at net j).stages
+junction_is_repeated net j = junction_name_is_repeated net j || list_any (repeats_movement net) (junction_at net j).stages
 
 -- This is the first spot that repeats something.
 abbrev pub repeated : Network → Option Spot

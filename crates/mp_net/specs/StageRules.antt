@@ -10,9 +10,13 @@ use Rattle.mp_net.specs.declared.fault.Spot.{Spot}
 abbrev pub names_unknown_movement : Network → Junction → Bool
 names_unknown_movement net j = list_any (list_any (λ k. not (movement_is_there net k))) j.stages
 
+-- The number is that of a movement out of link l.
+abbrev pub leaves_link : Network → ℕ → ℕ → Bool
+leaves_link net l k = movement_is_there net k && from_of net k == l
+
 -- A junction names a movement out of link l.
 abbrev pub serves_link : Network → ℕ → Junction → Bool
-serves_link net l j = list_any (list_any (λ k. from_of net k == l)) j.stages
+serves_link net l j = list_any (list_any (leaves_link net l)) j.stages
 
 -- Junction j names a movement out of link l, and an earlier junction does so too.
 abbrev pub is_served_twice : Network → ℕ → ℕ → Bool

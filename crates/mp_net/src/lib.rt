@@ -4,6 +4,7 @@
 mod fault;
 mod net;
 mod parts;
+mod rules;
 
 pub use fault::{NetFault, NetRule, NoMemory, Section, Spot};
 pub use net::Net;
