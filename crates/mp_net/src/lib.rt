@@ -5,6 +5,7 @@ mod fault;
 mod net;
 mod parts;
 mod rules;
+mod tables;
 
 pub use fault::{NetFault, NetRule, NoMemory, Section, Spot};
 pub use net::Net;
