@@ -1,2 +1,12 @@
 pub mod Parts
+pub mod Rows
 pub mod Tables
+pub mod Small
+pub mod Spots
+pub mod NumberRules
+pub mod RepeatRules
+pub mod LinkRules
+pub mod StageRules
+pub mod WayRules
+pub mod Rules
+pub mod Refused

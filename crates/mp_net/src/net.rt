@@ -1,12 +1,15 @@
 //! A network that meets the rules, with its tables of neighbours.
-ghost use Rattle.std.specs.Prelude.{◌≡◌, ◌≤◌, ℕ, length};
+ghost use Rattle.std.specs.Prelude.{◌≡◌, ◌==◌, ◌≤◌, ℕ, length, position, IfOk};
 ghost use Rattle.mp_model.specs.Network.{link_at, movement_at, junction_at, stage_at, share_of, flow_of, from_of, to_of, out_of, into_link, junction_of_link, fed, own, targets, next};
 ghost use Rattle.mp_model.specs.NetworkRules.{IsAcceptable};
-ghost use Rattle.mp_net.specs.Parts.{link_of, movement_of, junction_of};
+ghost use Rattle.mp_net.specs.Parts.{network_of, link_of, movement_of, junction_of};
 
+use crate::tables::{JunctionRow, LinkRow, fed, junction_rows, link_rows};
 use crate::{
-    JunctionNo, JunctionPart, LinkNo, LinkPart, MovementNo, MovementPart, NetParts, StageNo,
+    JunctionNo, JunctionPart, LinkNo, LinkPart, MovementNo, MovementPart, NetParts, NoMemory,
+    StageNo,
 };
+use std::alloc::Global;
 use std::marker::Model;
 
 /// A network that meets the rules. Callers see it as lists numbered from 1.
@@ -14,14 +17,8 @@ use std::marker::Model;
 pub struct Net {
     parts: NetParts,
     fed: Vec<LinkNo>,
-    // By link.
-    outs: Vec<Vec<MovementNo>>,
-    intos: Vec<Vec<MovementNo>>,
-    places: Vec<JunctionNo>,
-    // By junction.
-    owns: Vec<Vec<MovementNo>>,
-    targets: Vec<Vec<LinkNo>>,
-    nexts: Vec<Vec<MovementNo>>,
+    by_link: Vec<LinkRow>,
+    by_junction: Vec<JunctionRow>,
 }
 
 impl Model for Net {
@@ -36,6 +33,22 @@ impl Model for Net {
 }
 
 impl Net {
+    /// The network of these parts, with its tables.
+    pub(crate) fn with_tables(alloc: Global, parts: NetParts) -> Result<Net, NoMemory>
+        requires { IsAcceptable (network_of parts) }
+        ensures { IfOk result (λ net. net ≡ network_of parts) }
+    {
+        let fed = fed(alloc, &parts)?;
+        let by_link = link_rows(alloc, &parts, &fed)?;
+        let by_junction = junction_rows(alloc, &parts)?;
+        Ok(Net {
+            parts,
+            fed,
+            by_link,
+            by_junction,
+        })
+    }
+
     /// The share total.
     pub fn shares(&self) -> u32
         ensures value { result ≡ self.now.shares }
@@ -130,7 +143,7 @@ impl Net {
         requires { (1 ≤ l) × (l ≤ length self.now.links) }
         ensures { result.now ≡ out_of self.now l }
     {
-        &self.outs[usize::from(l) - 1]
+        &self.by_link[usize::from(l) - 1].outs
     }
 
     /// The movements into the link, in ascending order.
@@ -138,7 +151,7 @@ impl Net {
         requires { (1 ≤ l) × (l ≤ length self.now.links) }
         ensures { result.now ≡ into_link self.now l }
     {
-        &self.intos[usize::from(l) - 1]
+        &self.by_link[usize::from(l) - 1].intos
     }
 
     /// The junction that serves the link.
@@ -146,7 +159,7 @@ impl Net {
         requires { (1 ≤ l) × (l ≤ length self.now.links) }
         ensures { result ≡ junction_of_link self.now l }
     {
-        self.places[usize::from(l) - 1]
+        self.by_link[usize::from(l) - 1].junction
     }
 
     /// The fed links, in ascending order.
@@ -156,12 +169,20 @@ impl Net {
         &self.fed
     }
 
+    /// The place of the link among the fed links, from 0, or none where it is not fed.
+    pub fn fed_place(&self, l: LinkNo) -> Option<usize>
+        requires { (1 ≤ l) × (l ≤ length self.now.links) }
+        ensures { result ≡ position (λ f. f == l) (fed self.now) }
+    {
+        self.by_link[usize::from(l) - 1].fed_place
+    }
+
     /// The movements of the junction, in ascending order.
     pub fn own(&self, j: JunctionNo) -> &[MovementNo]
         requires { (1 ≤ j) × (j ≤ length self.now.junctions) }
         ensures { result.now ≡ own self.now (junction_at self.now j) }
     {
-        &self.owns[usize::from(j) - 1]
+        &self.by_junction[usize::from(j) - 1].own
     }
 
     /// The links that the movements of the junction go to, in ascending order.
@@ -169,7 +190,7 @@ impl Net {
         requires { (1 ≤ j) × (j ≤ length self.now.junctions) }
         ensures { result.now ≡ targets self.now (junction_at self.now j) }
     {
-        &self.targets[usize::from(j) - 1]
+        &self.by_junction[usize::from(j) - 1].targets
     }
 
     /// The movements out of these links, in ascending order.
@@ -177,6 +198,6 @@ impl Net {
         requires { (1 ≤ j) × (j ≤ length self.now.junctions) }
         ensures { result.now ≡ next self.now (junction_at self.now j) }
     {
-        &self.nexts[usize::from(j) - 1]
+        &self.by_junction[usize::from(j) - 1].next
     }
 }
