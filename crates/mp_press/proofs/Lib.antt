@@ -1,0 +1,5 @@
+pub mod Writes
+pub mod Known
+pub mod Sums
+pub mod Among
+pub mod Firsts

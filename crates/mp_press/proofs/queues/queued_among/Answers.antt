@@ -1,0 +1,59 @@
+use Rattle.std.proofs.Common.{◌≡◌, ◌==◌, ◌≤◌, ◌<◌, ◌-◌, ◌*◌, ◌^◌, ℕ, ap, ap₂, ◌∙◌, sym, arith, length, get_or, List}
+use Rattle.mp_model.specs.Network.{Network, share_of, from_of, out_of, has, targets, junction_at}
+use Rattle.mp_model.specs.Arrivals.{count_in}
+use Rattle.mp_press.specs.Queues.{naturals}
+use Rattle.mp_press.specs.Written.{IsAmong}
+use Rattle.mp_press.specs.Presses.{next_queue, next_of}
+use Rattle.mp_press.proofs.Known.{all_known, few_kept, share_few, kept_rise, kept_differ}
+use Rattle.mp_press.proofs.Among.{count_few}
+use Rattle.mp_press.proofs.Sums.{so_far_step, product_fits}
+use Rattle.mp_press.proofs.queues.queued_among.Goals as goal
+
+known : (net : Network) (l : ℕ) (ks : List ℕ) → ks ≡ out_of net l → (i : ℕ) → i < length ks → IsAmong (length net.movements) (get_or ks i 0)
+known net l ks e i h = let all = rw (sym e) at (all_known (λ k. from_of net k == l) (length net.movements)) in all i 0 h
+
+few : (net : Network) (l : ℕ) (ks : List ℕ) → ks ≡ out_of net l → length ks ≤ length net.movements
+few net l ks e = rw e (few_kept (λ k. from_of net k == l) (length net.movements))
+
+pub movement-requires : goal.movement-requires
+movement-requires c = known c.args.net.now c.args.l _ c.out_of-k-items.ensures c.loop-k.k-index c.loop-k-test.true
+
+pub queue_among-requires-clause-ascending : goal.queue_among-requires-clause-ascending
+queue_among-requires-clause-ascending c = let net = c.args.net.now in rw c.next-next.ensures (kept_rise (λ k. has (targets net (junction_at net c.args.j)) (from_of net k)) (length net.movements))
+
+pub queue_among-requires-clause-distinct : goal.queue_among-requires-clause-distinct
+queue_among-requires-clause-distinct c = let net = c.args.net.now in rw c.next-next.ensures (kept_differ (λ k. has (targets net (junction_at net c.args.j)) (from_of net k)) (length net.movements))
+
+fits : (net : Network) (ks : List ℕ) (qs : List ℕ) (k a b : ℕ) → a ≡ share_of net k → b ≡ count_in ks qs k → share_of net k ≤ 1000 → count_in ks qs k ≤ 2 ^ 90 → a * b ≤ 1000 * 2 ^ 90
+fits net ks qs k a b e f h l = product_fits a b (omega arith) (omega arith)
+
+pub overflow_mul-sum : goal.overflow_mul-sum
+overflow_mul-sum c =
+    let net = c.args.net.now in
+    let k = get_or c.out_of-k-items.result.now c.loop-k.k-index 0 in
+    let share = share_few net c.requires.acceptable.network k (known net c.args.l _ c.out_of-k-items.ensures c.loop-k.k-index c.loop-k-test.true) in
+    omega (
+      arith,
+      fits net c.next-next.result.now (naturals c.args.queues.now) k c.from.result c.queue_among.result (c.from.ensures ∙ c.movement.ensures.share) c.queue_among.ensures
+          (omega (arith, share, c.requires.acceptable.range.shares)) (count_few c.next-next.result.now (naturals c.args.queues.now) k (2 ^ 90) c.requires.counts.few),
+    )
+
+pub loop-k-preserved : goal.loop-k-preserved
+loop-k-preserved c =
+    let net = c.args.net.now in
+    let ks = c.out_of-k-items.result.now in
+    let qs = naturals c.args.queues.now in
+    let i = c.loop-k.k-index in
+    let k = get_or ks i 0 in
+    let share = share_few net c.requires.acceptable.network k (known net c.args.l ks c.out_of-k-items.ensures i c.loop-k-test.true) in
+    let most : c.from.result * c.queue_among.result ≤ 1000 * 2 ^ 90 = fits net c.next-next.result.now qs k c.from.result c.queue_among.result (c.from.ensures ∙ c.movement.ensures.share) c.queue_among.ensures
+    (omega (arith, share, c.requires.acceptable.range.shares)) (count_few c.next-next.result.now qs k (2 ^ 90) c.requires.counts.few) in
+    let value : c.from.result * c.queue_among.result ≡ share_of net k * next_queue net c.args.j qs k =
+    ap₂ ◌*◌ (c.from.ensures ∙ c.movement.ensures.share) (c.queue_among.ensures ∙ ap (λ ks. count_in ks qs k) c.next-next.ensures) in
+    so_far_step (λ k. share_of net k * next_queue net c.args.j qs k) ks i c.loop-k.sum (c.from.result * c.queue_among.result) (1000 * 2 ^ 90) c.loop-k-test.true value most c.loop-k.invariant.so_far c.loop-k.invariant.small
+
+pub overflow_add-sum : goal.overflow_add-sum
+overflow_add-sum c = let more = loop-k-preserved c in omega (arith, more.small, few c.args.net.now c.args.l _ c.out_of-k-items.ensures, c.requires.acceptable.range.movements)
+
+pub returns-clause-few : goal.returns-clause-few
+returns-clause-few c = omega (arith, few c.args.net.now c.args.l _ c.out_of-k-items.ensures, c.requires.acceptable.range.movements, c.loop-k.invariant.small)
