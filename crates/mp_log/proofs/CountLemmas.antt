@@ -9,6 +9,7 @@ use Rattle.std.proofs.lemmas.List.{append_assoc, length-append}
 use Rattle.std.proofs.lemmas.List.Splits.{slice_split_first, slice_split_none, length-slice_split}
 use Rattle.std.proofs.lemmas.List.Sums.{fails_before_first}
 use Rattle.std.proofs.lemmas.Option.{same_Some}
+use Rattle.std.proofs.lemmas.List.Quantifiers.{position-Some}
 use Rattle.std.proofs.lemmas.Bool.Decides.{nat_tests}
 use Rattle.mp_model.specs.Stream.{is_digit, is_plain, without_blanks_before, without_blanks_behind, count_of, onto, counts_of_parts, of_length, read_counts}
 
@@ -94,6 +95,6 @@ all_read line ns n read size = let same : (length ns == n) ≡ true = grind (ari
 pub few_read : (line ns : List ℕ) (n : ℕ) → Some ns ≡ counts_of_parts (split line) → length ns ≢ n → read_counts n line ≡ None
 few_read line ns n read other = ap (of_length n) (sym read) ∙ of_other_length n ns other
 
--- one more count of at most 9 digits
-pub all_more : (read : List ℕ) (x : ℕ) → All (λ a. a < 10 ^ 9) read → x < 10 ^ 9 → All (λ a. a < 10 ^ 9) (read ++ x ∷ [])
-all_more read x all small = ?
+-- a comma stands within the bytes
+pub comma_within : (rest : List ℕ) (at : ℕ) → position (λ b. b == 44) rest ≡ Some at → at < length rest
+comma_within rest at is = (position-Some (λ b. b == 44) rest at 0 is).0

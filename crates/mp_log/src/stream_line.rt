@@ -77,6 +77,14 @@ fn comma(bytes: &[u8]) -> Option<usize>
     bytes.iter().position(|b| *b == b',')
 }
 
+// The bytes behind the one at this place.
+fn behind(bytes: &[u8], at: usize) -> &[u8]
+    requires { at < length bytes.now }
+    ensures { result.now ≡ drop (at + 1) bytes.now }
+{
+    &bytes[at + 1..]
+}
+
 // Appends the count with blanks round it, where it is one and fewer than n are there.
 fn push_count(part: &[u8], n: usize, into: &mut ArrayVec<u64, 128>) -> bool
     requires few { n ≤ 128 }
@@ -111,7 +119,7 @@ fn read_counts(line: &[u8], n: usize, into: &mut ArrayVec<u64, 128>) -> bool
             into.clear();
             return false;
         }
-        rest = &rest[at + 1..];
+        rest = behind(rest, at);
     }
     if !push_count(rest, n, into) {
         into.clear();
@@ -136,7 +144,8 @@ pub fn read_line(net: &Net, line: &[u8], into: &mut ArrayVec<u64, 128>) -> Strea
     if is_skipped(line) {
         return StreamLine::Skipped;
     }
-    if read_counts(line, net.fed().len(), into) {
+    let fed = net.fed();
+    if read_counts(line, fed.len(), into) {
         StreamLine::Arrivals
     } else {
         StreamLine::Bad

@@ -1,9 +1,5 @@
 //! A network that meets the rules, with its tables of neighbours.
-<<<<<<< HEAD
 ghost use Rattle.std.specs.Prelude.{◌≡◌, ◌==◌, ◌≤◌, ℕ, length, position, IfOk};
-=======
-ghost use Rattle.std.specs.Prelude.{◌≡◌, ◌==◌, ◌≤◌, ℕ, length, position};
->>>>>>> 14ff31508443b0cb856502cf0447d1e422d4a98f
 ghost use Rattle.mp_model.specs.Network.{link_at, movement_at, junction_at, stage_at, share_of, flow_of, from_of, to_of, out_of, into_link, junction_of_link, fed, own, targets, next};
 ghost use Rattle.mp_model.specs.NetworkRules.{IsAcceptable};
 ghost use Rattle.mp_net.specs.Parts.{network_of, link_of, movement_of, junction_of};
@@ -21,20 +17,8 @@ use std::marker::Model;
 pub struct Net {
     parts: NetParts,
     fed: Vec<LinkNo>,
-<<<<<<< HEAD
     by_link: Vec<LinkRow>,
     by_junction: Vec<JunctionRow>,
-=======
-    // By link.
-    outs: Vec<Vec<MovementNo>>,
-    intos: Vec<Vec<MovementNo>>,
-    places: Vec<JunctionNo>,
-    fed_places: Vec<Option<usize>>,
-    // By junction.
-    owns: Vec<Vec<MovementNo>>,
-    targets: Vec<Vec<LinkNo>>,
-    nexts: Vec<Vec<MovementNo>>,
->>>>>>> 14ff31508443b0cb856502cf0447d1e422d4a98f
 }
 
 impl Model for Net {
@@ -180,7 +164,8 @@ impl Net {
 
     /// The fed links, in ascending order.
     pub fn fed(&self) -> &[LinkNo]
-        ensures { result.now ≡ fed self.now }
+        ensures value { result.now ≡ fed self.now }
+        ensures few { length result.now ≤ 128 }
     {
         &self.fed
     }
@@ -190,11 +175,7 @@ impl Net {
         requires { (1 ≤ l) × (l ≤ length self.now.links) }
         ensures { result ≡ position (λ f. f == l) (fed self.now) }
     {
-<<<<<<< HEAD
         self.by_link[usize::from(l) - 1].fed_place
-=======
-        self.fed_places[usize::from(l) - 1]
->>>>>>> 14ff31508443b0cb856502cf0447d1e422d4a98f
     }
 
     /// The movements of the junction, in ascending order.

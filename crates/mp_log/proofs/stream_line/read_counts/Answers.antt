@@ -1,7 +1,8 @@
-use Rattle.std.proofs.Common.{◌≡◌, ◌⊎◌, ◌+◌, [], ◌∷◌, ◌++◌, ℕ, List, Some, None, length, take, drop, arith, sym, ◌∙◌, ap, inl, inr, rules, false, refl}
-use Rattle.std.proofs.lemmas.List.{take_rest, length-append}
+use Rattle.std.proofs.Common.{◌≡◌, ◌⊎◌, ◌+◌, ◌<◌, ◌^◌, [], ◌∷◌, ◌++◌, ℕ, List, Some, None, length, take, drop, arith, sym, ◌∙◌, ap, inl, inr, rules, false, refl}
+use Rattle.std.proofs.lemmas.List.{length-append}
+use Rattle.std.proofs.lemmas.List.Elements.{All-push}
 use Rattle.mp_model.specs.Stream.{read_counts}
-use Rattle.mp_log.proofs.CountLemmas.{all_more, part_count, read_more, part_fails, last_more, last_fails, too_many, none_read, all_read, few_read}
+use Rattle.mp_log.proofs.CountLemmas.{comma_within, part_count, read_more, part_fails, last_more, last_fails, too_many, none_read, all_read, few_read}
 use Rattle.mp_log.proofs.stream_line.read_counts.Goals as goal
 
 pub returns-then-not-push_count-clause-none : goal.returns-then-not-push_count-clause-none
@@ -15,7 +16,7 @@ returns-then-not-push_count-clause-none c = λ _. (
 pub loop-at-preserved : goal.loop-at-preserved
 loop-at-preserved c =
     let p = c.if-not-push_count.ensures.pushed (search rules) in
-    record { digits = rw p.1.2 (all_more c.loop-at.into.items p.1.0 c.loop-at.invariant.digits p.1.3); few = omega (arith, ap length p.1.2, length-append c.loop-at.into.items (p.1.0 ∷ [])); so_far = rw p.1.2 (read_more c.loop-at.into.items c.loop-at.rest.now _ _ c.in-Some.at p.1.0 c.loop-at.invariant.so_far (search rules) p.1.1 (take_rest c.loop-at.rest.now (c.in-Some.at + 1))) }
+    record { digits = rw p.1.2 (All-push (λ a. a < 10 ^ 9) c.loop-at.into.items p.1.0 c.loop-at.invariant.digits p.1.3); few = omega (arith, ap length p.1.2, length-append c.loop-at.into.items (p.1.0 ∷ [])); so_far = rw p.1.2 (read_more c.loop-at.into.items c.loop-at.rest.now _ _ c.in-Some.at p.1.0 c.loop-at.invariant.so_far (search rules) p.1.1 (search rules)) }
 
 pub returns-then-not-push_count-2-clause-none : goal.returns-then-not-push_count-2-clause-none
 returns-then-not-push_count-2-clause-none c = λ _. (
@@ -40,7 +41,7 @@ returns-clause-some c =
 pub returns-clause-digits : goal.returns-clause-digits
 returns-clause-digits c =
     let p = c.if-not-push_count-2.ensures.pushed (search rules) in
-    λ _. rw p.1.2 (all_more c.loop-at.into.items p.1.0 c.loop-at.invariant.digits p.1.3)
+    λ _. rw p.1.2 (All-push (λ a. a < 10 ^ 9) c.loop-at.into.items p.1.0 c.loop-at.invariant.digits p.1.3)
 
-pub overflow_add-rest : goal.overflow_add-rest
-overflow_add-rest c = ?
+pub behind-requires : goal.behind-requires
+behind-requires c = comma_within c.loop-at.rest.now c.in-Some.at (search rules)
