@@ -54,17 +54,25 @@ end_line_of period total_in total_out queued = codes "end " ++ decimal period ++
 abbrev pub end_line : Network → State → List ℕ
 end_line net state = end_line_of state.period state.total_in state.total_out (queued net state)
 
--- The lines of a log without slack and bounds are the first line, a line per period of the run, and the end line.
+-- The lines of a run are a line per period, and the end line.
+abbrev pub run_lines : Network → List (List ℕ) → List (List ℕ)
+run_lines net A = period_lines net A ++ end_line net (state_after net (opening net) A) ∷ []
+
+-- The text of a run is that of these lines.
+abbrev pub run_text : Network → List (List ℕ) → List ℕ
+run_text net A = text_of (run_lines net A)
+
+-- The lines of a log without slack and bounds are the first line and those of the run.
 abbrev pub plain_log_lines : Network → List (List ℕ) → List (List ℕ)
-plain_log_lines net A = first_line ∷ period_lines net A ++ end_line net (state_after net (opening net) A) ∷ []
+plain_log_lines net A = first_line ∷ run_lines net A
 
 -- The log without slack and bounds is the text of these lines.
 abbrev pub plain_log_text : Network → List (List ℕ) → List ℕ
 plain_log_text net A = text_of (plain_log_lines net A)
 
--- The lines of a log are the header, a line per period of the run, and the end line.
+-- The lines of a log are the header and those of the run.
 abbrev pub log_lines : Network → ℕ → ℕ → List ℕ → List (List ℕ) → List (List ℕ)
-log_lines net E D bounds A = header_lines net E D bounds ++ period_lines net A ++ end_line net (state_after net (opening net) A) ∷ []
+log_lines net E D bounds A = header_lines net E D bounds ++ run_lines net A
 
 -- The log is the text of these lines.
 abbrev pub log_text : Network → ℕ → ℕ → List ℕ → List (List ℕ) → List ℕ

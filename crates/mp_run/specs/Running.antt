@@ -1,0 +1,122 @@
+-- What is read of a stream, and what is written of its run.
+use Rattle.std.specs.Prelude.{◌≡◌, ◌^◌, ℕ, ◌+◌, List, [], ◌∷◌, ◌++◌, length, Option, Some, None}
+use Rattle.std.specs.List.{AllByRecursion}
+use Rattle.mp_edge.specs.Outside.{Tells, GainsPrefix}
+use Rattle.mp_model.specs.Network.{Network}
+use Rattle.mp_model.specs.Step.{State}
+use Rattle.mp_model.specs.Run.{opening, advance, state_after}
+use Rattle.mp_model.specs.Log.{text_of, line_after, end_line, period_lines, run_text}
+use Rattle.mp_model.specs.Stream.{LineKind, plain_kinds, arrivals_of_kinds}
+use Rattle.mp_model.specs.Stream.LineKind.{skipped_line, arrivals_line, long_line, bad_line, hear_line, decide_line}
+use Rattle.mp_step.specs.Standing.{Standing, Stands}
+use Rattle.mp_run.specs.declared.run.RunEnd.{RunEnd}
+use Rattle.mp_run.specs.declared.run.RunEnd.TheVariants.{Done, Read, Write, LineLimit, Long, Grammar}
+
+-- A line is taken where it is skipped or gives arrivals.
+abbrev pub IsTaken : LineKind → Type 0
+IsTaken skipped_line = Unit {0}
+IsTaken (arrivals_line counts) = Unit {0}
+IsTaken long_line = ⊥
+IsTaken bad_line = ⊥
+IsTaken (hear_line j l) = ⊥
+IsTaken (decide_line j) = ⊥
+
+-- A text starts with lines of these kinds, each of them taken, and goes on with lines of the other kinds.
+pub record StartsWith (net : Network) (text : List ℕ) (kinds more : List LineKind) : Type 0 where
+  pub lines : plain_kinds net text ≡ kinds ++ more
+  pub taken : AllByRecursion IsTaken kinds
+
+-- The stream was read to its end, each of its lines was taken, and the text of the run over its arrivals was written.
+pub record Finished (net : Network) (whole left was now : Option (List ℕ)) : Type 0 where
+  pub kinds : List LineKind
+  pub read : Tells whole left (λ text rest. (rest ≡ []) × StartsWith net text kinds [])
+  pub written : Tells was now (λ before after. after ≡ before ++ run_text net (arrivals_of_kinds kinds))
+
+-- The lines before line n were taken, line n is of this kind, and the lines of the periods before it were written.
+pub record RefusedAt (net : Network) (kind : LineKind) (n : ℕ) (whole left was now : Option (List ℕ)) : Type 0 where
+  pub kinds : List LineKind
+  pub number : n ≡ length kinds + 1
+  pub read : Tells whole left (λ text rest. (more : List LineKind) × StartsWith net text kinds (kind ∷ more))
+  pub written : Tells was now (λ before after. after ≡ before ++ text_of (period_lines net (arrivals_of_kinds kinds)))
+
+-- The first 2^48 lines were taken, another line follows them, and the lines of their periods were written.
+pub record HasTooMany (net : Network) (whole left was now : Option (List ℕ)) : Type 0 where
+  pub kinds : List LineKind
+  pub number : length kinds ≡ 2 ^ 48
+  pub read : Tells whole left (λ text rest. (kind : LineKind) × (more : List LineKind) × StartsWith net text kinds (kind ∷ more))
+  pub written : Tells was now (λ before after. after ≡ before ++ text_of (period_lines net (arrivals_of_kinds kinds)))
+
+-- The lines read so far were taken, and the lines of their periods were written.
+pub record StopsReading (net : Network) (whole left was now : Option (List ℕ)) : Type 0 where
+  pub kinds : List LineKind
+  pub read : Tells whole left (λ text rest. (more : List LineKind) × StartsWith net text kinds more)
+  pub written : Tells was now (λ before after. after ≡ before ++ text_of (period_lines net (arrivals_of_kinds kinds)))
+
+-- The lines read so far were taken, and a prefix of the text of the run over their arrivals was written.
+pub record StopsWriting (net : Network) (whole left was now : Option (List ℕ)) : Type 0 where
+  pub kinds : List LineKind
+  pub read : Tells whole left (λ text rest. (more : List LineKind) × StartsWith net text kinds more)
+  pub written : Tells was now (GainsPrefix (run_text net (arrivals_of_kinds kinds)))
+
+-- This is what each end of a run says.
+abbrev pub EndsAs : Network → RunEnd → Option (List ℕ) → Option (List ℕ) → Option (List ℕ) → Option (List ℕ) → Type 0
+EndsAs net Done whole left was now = Finished net whole left was now
+EndsAs net Read whole left was now = StopsReading net whole left was now
+EndsAs net Write whole left was now = StopsWriting net whole left was now
+EndsAs net LineLimit whole left was now = HasTooMany net whole left was now
+EndsAs net (Long n) whole left was now = RefusedAt net long_line n whole left was now
+EndsAs net (Grammar n) whole left was now = RefusedAt net bad_line n whole left was now
+
+-- A period was closed with these counts, and its line was written.
+pub record Closed (net : Network) (counts : List ℕ) (old new : Standing) (was now : Option (List ℕ)) : Type 0 where
+  pub moved : (state : State) → Stands net old state → Stands net new (advance net counts state)
+  pub written : (state : State) → Stands net old state → Tells was now (λ before after. after ≡ before ++ text_of (line_after net state counts ∷ []))
+
+-- A prefix of the line of the period with these counts was written.
+abbrev pub CutShort : Network → List ℕ → Standing → Option (List ℕ) → Option (List ℕ) → Type 0
+CutShort net counts old was now = (state : State) → Stands net old state → Tells was now (GainsPrefix (text_of (line_after net state counts ∷ [])))
+
+-- A skipped line changes nothing, and one of arrivals closes a period.
+abbrev pub TakesKind : Network → LineKind → Standing → Standing → Option (List ℕ) → Option (List ℕ) → Type 0
+TakesKind net skipped_line old new was now = (new ≡ old) × (now ≡ was)
+TakesKind net (arrivals_line counts) old new was now = Closed net counts old new was now
+TakesKind net long_line old new was now = ⊥
+TakesKind net bad_line old new was now = ⊥
+TakesKind net (hear_line j l) old new was now = ⊥
+TakesKind net (decide_line j) old new was now = ⊥
+
+-- A write that fails cuts the line of the period of these arrivals short.
+abbrev pub CutsKind : Network → LineKind → Standing → Option (List ℕ) → Option (List ℕ) → Type 0
+CutsKind net (arrivals_line counts) old was now = CutShort net counts old was now
+CutsKind net skipped_line old was now = ⊥
+CutsKind net long_line old was now = ⊥
+CutsKind net bad_line old was now = ⊥
+CutsKind net (hear_line j l) old was now = ⊥
+CutsKind net (decide_line j) old was now = ⊥
+
+-- A line is taken and the run goes on, or the run ends at the line of this number: as it is bad, or as a write failed.
+abbrev pub TakesLine : Network → LineKind → ℕ → Option RunEnd → Standing → Standing → Option (List ℕ) → Option (List ℕ) → Type 0
+TakesLine net kind n None old new was now = TakesKind net kind old new was now
+TakesLine net kind n (Some Write) old new was now = CutsKind net kind old was now
+TakesLine net kind n (Some (Grammar m)) old new was now = (kind ≡ bad_line) × (m ≡ n) × (now ≡ was)
+TakesLine net kind n (Some Done) old new was now = ⊥
+TakesLine net kind n (Some Read) old new was now = ⊥
+TakesLine net kind n (Some LineLimit) old new was now = ⊥
+TakesLine net kind n (Some (Long m)) old new was now = ⊥
+
+-- The end line was written, or a prefix of it where the write failed.
+abbrev pub Finishes : Network → RunEnd → Standing → Option (List ℕ) → Option (List ℕ) → Type 0
+Finishes net Done standing was now = (state : State) → Stands net standing state → Tells was now (λ before after. after ≡ before ++ text_of (end_line net state ∷ []))
+Finishes net Write standing was now = (state : State) → Stands net standing state → Tells was now (GainsPrefix (text_of (end_line net state ∷ [])))
+Finishes net Read standing was now = ⊥
+Finishes net LineLimit standing was now = ⊥
+Finishes net (Long n) standing was now = ⊥
+Finishes net (Grammar n) standing was now = ⊥
+
+-- In the middle of a run: the kinds of the lines so far, where their arrivals lead, what is to come, and what was written.
+pub record Progress (net : Network) (whole left : Option (List ℕ)) (held : List ℕ) (was now : Option (List ℕ)) (standing : Standing) (lines : ℕ) : Type 0 where
+  pub kinds : List LineKind
+  pub count : length kinds ≡ lines
+  pub stands : Stands net standing (state_after net (opening net) (arrivals_of_kinds kinds))
+  pub to_come : Tells whole left (λ text rest. StartsWith net text kinds (plain_kinds net (held ++ rest)))
+  pub written : Tells was now (λ before after. after ≡ before ++ text_of (period_lines net (arrivals_of_kinds kinds)))
