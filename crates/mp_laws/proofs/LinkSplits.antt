@@ -5,7 +5,7 @@ use Rattle.mp_model.specs.Network.{Network, movement_numbers, link_numbers, from
 use Rattle.mp_model.specs.NetworkRules.{IsNetwork}
 use Rattle.mp_model.specs.Split.{IsSplit}
 use Rattle.mp_laws.proofs.Distinct.{range_distinct, distinct_filter}
-use Rattle.mp_laws.proofs.Margin.{AllOf-map}
+use Rattle.mp_laws.proofs.Lists.{AllOf-map}
 
 pub link_splits : (net : Network) → IsNetwork net → AllByRecursion (λ l. IsSplit net.shares (share_of net) (out_of net l)) (link_numbers net)
 link_splits net ok = AllOf-map (λ l. sum_by (share_of net) (out_of net l) ≡ net.shares) (λ l. IsSplit net.shares (share_of net) (out_of net l))

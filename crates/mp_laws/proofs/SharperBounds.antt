@@ -1,15 +1,15 @@
 -- Sharper forms of the laws on the drift and the bound fail.
-use Rattle.std.proofs.Common.{◌≡◌, ◌≤◌, ◌<◌, ℕ, ◌+◌, ◌*◌, List, [], ◌∷◌, None, sum_by, pos, arith, refl, sym, lit≤, lit<}
+use Rattle.std.proofs.Common.{◌≡◌, ◌≤◌, ℕ, ◌+◌, ◌*◌, List, [], ◌∷◌, None, sum_by, pos, arith, refl, lit≤, lit<}
 use Rattle.std.specs.List.{AllByRecursion, IsDistinct}
-use Rattle.mp_model.specs.Network.{Network, movement_numbers, entry, link_numbers}
+use Rattle.mp_model.specs.Network.{Network, movement_numbers, entry}
 use Rattle.mp_model.specs.NetworkRules.{IsNetwork}
 use Rattle.mp_model.specs.Arrivals.{HasCounts}
 use Rattle.mp_model.specs.Certificate.{Cert, Certifies}
 use Rattle.mp_model.specs.Slack.{IsSlack}
 use Rattle.mp_model.specs.Pressure.{AllGreatest}
-use Rattle.mp_model.specs.Bounds.{AreBounds, IsRoot, drift_constant, greatest_drift, queue_threshold}
+use Rattle.mp_model.specs.Bounds.{AreBounds, drift_constant, greatest_drift, queue_threshold}
 use Rattle.mp_model.specs.DriftValue.{drift_value}
-use Rattle.mp_model.specs.Step.{State, queue}
+use Rattle.mp_model.specs.Step.{queue}
 use Rattle.mp_model.specs.Run.{run}
 use Rattle.mp_model.specs.Worked.{two_approaches, two_approaches_cert}
 use Rattle.mp_laws.specs.Periods.{IsPeriod, IsWithin}
@@ -49,6 +49,13 @@ factor_one_higher law =
 excess_one_more : ¬ DriftOf (λ E square. 2 * square * (E + 1))
 excess_one_more law =
     let h : 4 * 313664 + 2 * 16 * 4 * 200 ≤ 4 * 318402 + 4 * 448 = law two_approaches (two_network 1) two_approaches_cert two_certified 3 4 two_slack (1 ∷ []) (λ l. 0) long_queues (λ l. 0) (λ l. 1) served_queues (λ l. 0) (λ l. 0) long_greatest long_period in
+    absurd (omega arith)
+
+-- a period would bring any drift value down to its greatest
+kept_of_any : ¬ ((net : Network) → IsNetwork net → (cert : Cert) → Certifies net cert → (E D : ℕ) → IsSlack cert E D → (stages : List ℕ) (arrivals q phase level q' phase' level' : ℕ → ℕ) →
+    AllGreatest net q net.junctions stages → IsPeriod net stages arrivals q phase level q' phase' level' → IsWithin net level → drift_value net q' phase' level' ≤ greatest_drift net E D)
+kept_of_any law =
+    let h : 313664 ≤ 8192 = law two_approaches (two_network 1) two_approaches_cert two_certified 3 4 two_slack (1 ∷ []) (λ l. 0) long_queues (λ l. 0) (λ l. 1) served_queues (λ l. 0) (λ l. 0) long_greatest long_period (lit≤ tt, (lit≤ tt, tt)) in
     absurd (omega arith)
 
 -- One lane alone, with a flow and a burst.

@@ -2,7 +2,7 @@
 use Rattle.std.proofs.Common.{◌≡◌, ◌≢◌, ◌≤◌, ◌<◌, ℕ, ◌+◌, ◌*◌, List, [], ◌∷◌, length, sum_by, pos, ◌+ℤ◌, ◌-ℤ◌, ◌*ℤ◌, ◌≤ℤ◌, arith, refl, sym, lit≤, lit<}
 use Rattle.std.proofs.lemmas.Int.{ints}
 use Rattle.mp_model.specs.Sums.{int_sum_by}
-use Rattle.mp_model.specs.Network.{Network, Junction, movement_numbers, junction_at, stage_at, from_of, share_of, into_link, entry}
+use Rattle.mp_model.specs.Network.{Network, Junction, no_junction, movement_numbers, junction_at, stage_at, from_of, share_of, into_link, entry}
 use Rattle.mp_model.specs.NetworkRules.{IsNetwork}
 use Rattle.mp_model.specs.Pressure.{queued_downstream, weight, positive_weight, pressure, greatest_stage}
 use Rattle.mp_model.specs.Load.{load, capacity, IsVector, IsTight}
@@ -20,6 +20,12 @@ weight_one_more law = let h : pos 1 ≡ pos 0 = law tandem (λ k. 0) 1 (omega (a
 greatest_alone : ¬ ((net : Network) → IsNetwork net → (q : ℕ → ℕ) (t : ℕ) → 1 ≤ t → t ≤ length (junction_at net 1).stages → t ≢ greatest_stage net q (junction_at net 1) →
     pressure net q (stage_at (junction_at net 1) t) < pressure net q (stage_at (junction_at net 1) (greatest_stage net q (junction_at net 1))))
 greatest_alone law = let h : 0 < 0 = law two_approaches (two_network 1) (λ k. 0) 2 (lit≤ tt) (lit≤ tt) (λ e. let n : 2 ≡ 1 = e in absurd (omega arith)) in absurd (omega arith)
+
+-- where ties are left open, there would be one greatest stage
+stage_without_first : ¬ ((net : Network) (q : ℕ → ℕ) (j : Junction) (s t : ℕ) →
+    ((i : ℕ) → 1 ≤ i → i ≤ length j.stages → pressure net q (stage_at j i) ≤ pressure net q (stage_at j s)) →
+    ((i : ℕ) → 1 ≤ i → i ≤ length j.stages → pressure net q (stage_at j i) ≤ pressure net q (stage_at j t)) → s ≡ t)
+stage_without_first law = apart 1 2 (lit< tt) (law two_approaches (λ k. 0) no_junction 1 2 (λ i a b. lit≤ tt) (λ i a b. lit≤ tt))
 
 -- the share total would be one more, or what passes into links one vehicle more
 weights_one_more : ¬ ((net : Network) (y q : ℕ → ℕ) →

@@ -1,5 +1,5 @@
 -- Sharper forms of the laws on the run, the event core and the stream fail.
-use Rattle.std.proofs.Common.{◌≡◌, ◌==◌, ◌≤◌, ◌<◌, ℕ, ◌+◌, ◌*◌, List, [], ◌∷◌, length, codes, arith, ◌-◌, refl, sym, ap, lit≤, lit<}
+use Rattle.std.proofs.Common.{◌≡◌, ◌≤◌, ℕ, ◌+◌, List, [], ◌∷◌, length, codes, arith, ◌-◌, refl, sym, ap, lit<}
 use Rattle.std.specs.List.{AllByRecursion}
 use Rattle.mp_model.specs.Network.{Network, link_numbers, link_at, fed, entry}
 use Rattle.mp_model.specs.NetworkRules.{IsNetwork}
@@ -9,7 +9,7 @@ use Rattle.mp_model.specs.Run.{opening, run, state_after}
 use Rattle.mp_model.specs.EventCore.{Event, apply, core_opening, core_after, closed_of, all_lacking}
 use Rattle.mp_model.specs.EventCore.Event.{hear, decide, close}
 use Rattle.mp_model.specs.EventCore.{Answer}
-use Rattle.mp_model.specs.EventCore.Answer.{closed, above_at}
+use Rattle.mp_model.specs.EventCore.Answer.{closed}
 use Rattle.mp_model.specs.Stream.{kinds, arrivals_of_kinds}
 use Rattle.mp_model.specs.StreamEnd.{stream_end, stream_closed}
 use Rattle.mp_model.specs.StreamEnd.StreamEnd.{above_in}

@@ -1,14 +1,16 @@
 -- Sharper forms of the laws on windows and splits fail.
-use Rattle.std.proofs.Common.{◌≡◌, ◌==◌, ◌≤◌, ◌<◌, ℕ, ◌+◌, ◌-◌, ◌*◌, ◌%◌, true, List, [], ◌∷◌, length, map, sum_by, pos, neg_ℤ, ◌+ℤ◌, ◌≤ℤ◌, arith, refl, sym, lit≤, lit<}
+use Rattle.std.proofs.Common.{◌≡◌, ◌==◌, ◌≤◌, ◌<◌, ℕ, ◌+◌, ◌-◌, ◌*◌, ◌%◌, Bool, true, false, List, [], ◌∷◌, length, map, sum_by, pos, neg_ℤ, ◌+ℤ◌, ◌≤ℤ◌, arith, refl, sym, ◌∙◌, ap, eqb-true, eq-eqb, ne_eqb, lit≤, lit<}
+use Rattle.std.proofs.lemmas.Bool.{false≢true}
 use Rattle.std.proofs.lemmas.Int.{ints}
-use Rattle.std.specs.List.{AllByRecursion, IsDistinct}
-use Rattle.mp_model.specs.Network.{has, share_of, out_of}
+use Rattle.std.specs.List.{AllByRecursion}
+use Rattle.mp_model.specs.Network.{share_of}
 use Rattle.mp_model.specs.Arrivals.{KeepsTo, level_after}
 use Rattle.mp_model.specs.Split.{split_counts, credit, IsSplit}
 use Rattle.mp_model.specs.Worked.{roundabout}
 use Rattle.mp_laws.proofs.Windows.{keeps_to}
 use Rattle.mp_laws.proofs.Cases.{roundabout_acceptable}
 use Rattle.mp_laws.proofs.LinkSplits.{link_splits}
+use Rattle.mp_laws.proofs.Places.{split-map}
 
 -- two numbers differ
 pub apart : (a b : ℕ) → a < b → a ≡ b → ⊥
@@ -48,3 +50,11 @@ joined_one_more law = apart 0 1 (lit< tt) (law 2 (share_of roundabout) (1 ∷ 2 
 -- two movements would have one number
 numbers_shared : ¬ ((total : ℕ) (share : ℕ → ℕ) (f : ℕ → ℕ) (xs : List ℕ) → 1 ≤ length xs → (n : ℕ) → AllByRecursion (λ i. split_counts total share (map f xs) n (f i) ≡ split_counts total (λ i. share (f i)) xs n i) xs)
 numbers_shared law = apart 0 1 (lit< tt) (sym ((law 2 (λ k. 1) (λ i. 1) (1 ∷ 2 ∷ []) (lit≤ tt) 1).1.0))
+
+next_apart : (i j : ℕ) (b : Bool) → (i == j) ≡ b → (i + 1 == j + 1) ≡ b
+next_apart i j true e = eq-eqb (i + 1) (j + 1) (ap (λ n. n + 1) (eqb-true i j e))
+next_apart i j false e = ne_eqb (i + 1) (j + 1) (λ h. false≢true (sym e ∙ eq-eqb i j (omega arith)))
+
+-- places from 0 and numbers from 1 meet the premise of the law on renumbering
+renumbered : (n : ℕ) → AllByRecursion (λ i. split_counts 2 (share_of roundabout) (1 ∷ 2 ∷ []) n (i + 1) ≡ split_counts 2 (λ i. share_of roundabout (i + 1)) (0 ∷ 1 ∷ []) n i) (0 ∷ 1 ∷ [])
+renumbered = split-map 2 (share_of roundabout) (λ i. i + 1) (0 ∷ 1 ∷ []) (lit≤ tt) (λ i j a b. next_apart i j (i == j) refl)
