@@ -21,10 +21,11 @@ pub record HasCredits (total : ℕ) (share : ℕ → ℕ) (ks : List ℕ) : Type
 abbrev pub CreditLaw : Type 0
 CreditLaw = (total : ℕ) (share : ℕ → ℕ) (ks : List ℕ) → IsSplit total share ks → HasCredits total share ks
 
--- After m whole rounds each movement has its share m times over, and the next r vehicles join as the first r did; so how many of the next vehicles join a movement depends on the number before by its rest modulo the total alone.
+-- After m whole rounds each movement has its share m times over, and the next r vehicles join as the first r did; so the credits, and how many of the next vehicles join a movement, depend on the number before by its rest modulo the total alone.
 pub record FollowsPhase (total : ℕ) (share : ℕ → ℕ) (ks : List ℕ) : Type 0 where
   pub rounds : (m r : ℕ) → AllByRecursion (λ k. split_counts total share ks (m * total + r) k ≡ share k * m + split_counts total share ks r k) ks
   pub phases : (n r : ℕ) → AllByRecursion (λ k. split_counts total share ks (n + r) k - split_counts total share ks n k ≡ split_counts total share ks (n % total + r) k - split_counts total share ks (n % total) k) ks
+  pub credits : (n : ℕ) → AllByRecursion (λ k. credit total share ks (n % total) k ≡ credit total share ks n k) ks
 
 -- This holds of every split.
 abbrev pub PhaseLaw : Type 0
