@@ -13,11 +13,11 @@ use Rattle.std.proofs.lemmas.List.FromFn.{length-map-range_with_len}
 use Rattle.std.proofs.Math.Nat.{mod_self, mod-eq_of_lt, mod-add-mod}
 use borrow.Author.Differences.{true_is_lt, false_is_lt}
 use Rattle.mp_model.specs.Split.{first_greatest, credit_of}
-use Rattle.mp_laws.proofs.Credits.{first_in, first_agree, again, some_length}
-use Rattle.mp_laws.proofs.Margin.{AllOf-map}
-use Rattle.mp_laws.proofs.Greatest.{in_range, at_range}
+use Rattle.mp_laws.proofs.Credits.{again, some_length}
 use Rattle.mp_laws.proofs.Distinct.{range_distinct}
 use Rattle.mp_feed.specs.Counts.{counts, joins, gained, places_of}
+use Rattle.mp_laws.proofs.Lists.{AllOf-map, in_range, at_range}
+use Rattle.mp_laws.proofs.FirstGreatest.{first_in, first_agree}
 
 range_more : (a n b : ℕ) → a + n ≡ b → range_with_len a (suc n) ≡ range_with_len a n ++ b ∷ []
 range_more a zero b e = let s : a ≡ b = omega arith in ap (λ x. x ∷ []) s

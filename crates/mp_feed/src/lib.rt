@@ -6,3 +6,6 @@ mod splitter;
 
 pub use memory::NoMemory;
 pub use splitter::Splitter;
+
+#[cfg(test)]
+mod tests;

@@ -9,8 +9,10 @@ use Rattle.mp_model.specs.Network.{Network, Junction, numbers_to, no_junction, j
 use Rattle.mp_model.specs.Split.{first_greatest}
 use Rattle.mp_model.specs.Pressure.{pressure_by, greatest_stage_by, IsGreatestStageBy, AllGreatest}
 use Rattle.mp_model.specs.Step.{AreStages}
-use Rattle.mp_laws.proofs.Credits.{first_most, first_in, first_agree, all_of}
-use Rattle.mp_laws.proofs.Greatest.{Leads, leads_all, in_range, at_range}
+use Rattle.mp_laws.proofs.FirstGreatest.{first_most, first_in, first_agree}
+use Rattle.mp_laws.proofs.Lists.{all_of}
+use Rattle.mp_laws.proofs.Greatest.{Leads, leads_all}
+use Rattle.mp_laws.proofs.Lists.{in_range, at_range}
 use Rattle.mp_laws.proofs.Sums.{sum_by-same_at}
 use Rattle.mp_press.specs.Presses.{press_by, greatest_in}
 use Rattle.mp_press.proofs.Sums.{range_more}

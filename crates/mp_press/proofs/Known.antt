@@ -8,12 +8,12 @@ use Rattle.std.proofs.lemmas.List.FromFn.{length-range_with_len, get_or-range_wi
 use Rattle.std.proofs.lemmas.List.Sums.{sum_by-cons}
 use Rattle.mp_model.specs.Network.{Network, Junction, movement_numbers, link_numbers, numbers_to, has, junction_at, stage_at, no_junction, no_movement, out_of, into_link, from_of, to_of, share_of, flow_of, goes_to, own, next, targets, stands_in}
 use Rattle.mp_model.specs.NetworkRules.{IsNetwork, IsInRange, HasStages}
-use Rattle.mp_laws.proofs.Margin.{AllOf-map}
-use Rattle.mp_laws.proofs.Order.{at_index}
-use Rattle.mp_laws.proofs.Bridge.{filter_sub}
-use Rattle.mp_laws.proofs.Bounds.{terms_le}
-use Rattle.mp_laws.proofs.Greatest.{in_numbers, at_range}
-use Rattle.mp_laws.proofs.Drift.{each_in, at_in, all_in, has_filter}
+use Rattle.mp_laws.proofs.Lists.{AllOf-map}
+use Rattle.mp_laws.proofs.Lists.{at_index}
+use Rattle.mp_laws.proofs.Lists.{filter_sub}
+use Rattle.mp_laws.proofs.Sums.{terms_le}
+use Rattle.mp_laws.proofs.Lists.{in_numbers, at_range}
+use Rattle.mp_laws.proofs.Lists.{each_in, at_in, all_in, has_filter}
 use Rattle.mp_laws.proofs.Distinct.{range_distinct, distinct_filter, shared_le}
 use Rattle.mp_laws.proofs.Serve.{stage_in}
 use Rattle.mp_laws.proofs.Sums.{sum_by-same_at}

@@ -6,7 +6,7 @@ use Rattle.mp_model.specs.NetworkRules.{IsNetwork}
 use Rattle.mp_model.specs.Pressure.{greatest_stage, AllGreatest}
 use Rattle.mp_model.specs.Step.{AreStages}
 use Rattle.mp_model.specs.Run.{greatest_stages}
-use Rattle.mp_laws.proofs.Margin.{AllOf-map}
+use Rattle.mp_laws.proofs.Lists.{AllOf-map}
 use Rattle.mp_laws.proofs.Bounds.{all_greatest}
 use Rattle.mp_press.specs.Queues.{naturals}
 use Rattle.mp_press.specs.Written.{HasEach, IsAmong}

@@ -1,0 +1,126 @@
+ghost use Rattle.std.specs.Prelude.{◌≡◌, ◌≤◌, ◌^◌, length, sum, All};
+
+use super::*;
+use std::alloc::{AllocError, Global};
+use std::process::Abort;
+use std::test::Fail;
+
+// The next vehicle joins as wanted.
+fn joins(rt: &impl Abort, splitter: &mut Splitter, want: [u64; 3])
+    requires { length splitter.old.shares ≡ 3 }
+    ensures { splitter.new.shares ≡ splitter.old.shares }
+{
+    let mut got = [7u64; 3];
+    splitter.take(1, &mut got);
+    assert_eq!(rt; got, want);
+}
+
+#[test]
+fn splits_seven_vehicles(rt: HostRuntime) -> Result<(), Fail> {
+    let mut splitter = Splitter::new(rt.alloc(), &[5, 1, 1])?;
+    joins(&rt, &mut splitter, [1, 0, 0]);
+    joins(&rt, &mut splitter, [1, 0, 0]);
+    joins(&rt, &mut splitter, [0, 1, 0]);
+    joins(&rt, &mut splitter, [1, 0, 0]);
+    joins(&rt, &mut splitter, [0, 0, 1]);
+    joins(&rt, &mut splitter, [1, 0, 0]);
+    joins(&rt, &mut splitter, [1, 0, 0]);
+    assert_eq!(rt; splitter.credit(0), 0);
+    assert_eq!(rt; splitter.credit(1), 0);
+    assert_eq!(rt; splitter.credit(2), 0);
+    joins(&rt, &mut splitter, [1, 0, 0]);
+    let mut got = [0u64; 3];
+    assert_eq!(rt; splitter.take_from(0, 7, &mut got), 0);
+    assert_eq!(rt; got, [5, 1, 1]);
+    Ok(())
+}
+
+#[test]
+fn splits_two_halves(rt: HostRuntime) -> Result<(), Fail> {
+    let mut splitter = Splitter::new(rt.alloc(), &[1, 1])?;
+    let mut got = [0u64; 2];
+    splitter.take(1, &mut got);
+    assert_eq!(rt; got, [1, 0]);
+    assert_eq!(rt; splitter.credit(0), -1);
+    assert_eq!(rt; splitter.credit(1), 1);
+    Ok(())
+}
+
+// The split by its definition: each vehicle joins where the credit is then greatest, first on ties.
+fn one_by_one(shares: &[u32], n: u64, credits: &mut [i64], got: &mut [u64]) {
+    let total = shares
+        .iter()
+        .fold(0i64, |sum, &share| sum.wrapping_add(i64::from(share)));
+    got.fill(0);
+    for _vehicle in 0..n {
+        for (credit, &share) in credits.iter_mut().zip(shares) {
+            *credit = credit.wrapping_add(i64::from(share));
+        }
+        let mut best = 0;
+        for i in 1..credits.len() {
+            if credits.get(i).copied() > credits.get(best).copied() {
+                best = i;
+            }
+        }
+        if let (Some(credit), Some(count)) = (credits.get_mut(best), got.get_mut(best)) {
+            *credit = credit.wrapping_sub(total);
+            *count = count.wrapping_add(1);
+        }
+    }
+}
+
+// After `before` vehicles the next n join as they do one by one.
+fn compare(
+    rt: &impl Abort,
+    alloc: Global,
+    shares: &[u32],
+    before: u64,
+    n: u64,
+) -> Result<(), NoMemory>
+    requires some { 1 ≤ length shares.now }
+    requires each { All (λ w. 1 ≤ w) shares.now }
+    requires few { sum shares.now ≤ 1000 }
+    requires within { (before ≤ 2 ^ 32) × (n ≤ 2 ^ 32) }
+{
+    let mut splitter = Splitter::new(alloc, shares)?;
+    let mut got = vec![in alloc; 0u64; shares.len()]?;
+    let mut want = vec![in alloc; 0u64; shares.len()]?;
+    let mut credits = vec![in alloc; 0i64; shares.len()]?;
+    splitter.take(before, &mut got);
+    one_by_one(shares, before, &mut credits, &mut want);
+    assert_eq!(rt; got.as_slice(), want.as_slice());
+    splitter.take(n, &mut got);
+    one_by_one(shares, n, &mut credits, &mut want);
+    assert_eq!(rt; got.as_slice(), want.as_slice());
+    Ok(())
+}
+
+#[test]
+fn splits_as_the_credits_do(rt: HostRuntime) -> Result<(), Fail> {
+    compare(&rt, rt.alloc(), &[1], 3, 4)?;
+    compare(&rt, rt.alloc(), &[1, 1], 1, 5)?;
+    compare(&rt, rt.alloc(), &[2, 3, 5], 7, 46)?;
+    compare(&rt, rt.alloc(), &[70, 10, 20], 99, 1234)?;
+    compare(&rt, rt.alloc(), &[1, 998, 1], 500, 2501)?;
+    compare(&rt, rt.alloc(), &[3, 3, 3, 3], 5, 8)?;
+    Ok(())
+}
+
+// A walk of each vehicle would not end within a test.
+#[test]
+fn splits_among_a_thousand(rt: HostRuntime) -> Result<(), Fail> {
+    let shares = vec![in rt.alloc(); 1u32; 1000]?;
+    let mut splitter = Splitter::new(rt.alloc(), &shares)?;
+    let mut got = vec![in rt.alloc(); 0u64; 1000]?;
+    splitter.take(4_294_967_296, &mut got);
+    for i in 0..1000 {
+        let (joined, credit) = if i < 296 {
+            (4_294_968, -704)
+        } else {
+            (4_294_967, 296)
+        };
+        assert_eq!(rt; got.get(i).copied(), Some(joined), "at {i}");
+        assert_eq!(rt; splitter.credit(i), credit, "at {i}");
+    }
+    Ok(())
+}
