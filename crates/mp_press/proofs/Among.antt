@@ -16,7 +16,7 @@ count_absent (f ∷ fs) (c ∷ cs) l h = go (count_absent fs cs l) (f == l) refl
     go more true e t = absurd (true≢false t)
     go more false e t = more t
 
-absent_at : (x : ℕ) (xs : List ℕ) (i : ℕ) → i < length xs → AllByRecursion (λ y. (x == y) ≡ false) xs → (x == get_or xs i 0) ≡ false
+pub absent_at : (x : ℕ) (xs : List ℕ) (i : ℕ) → i < length xs → AllByRecursion (λ y. (x == y) ≡ false) xs → (x == get_or xs i 0) ≡ false
 absent_at x [] i h a = absurd (omega arith)
 absent_at x (y ∷ ys) zero h a = a.0
 absent_at x (y ∷ ys) (suc i) h a = absent_at x ys i (omega arith) a.1

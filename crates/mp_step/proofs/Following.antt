@@ -1,0 +1,127 @@
+-- A period from the phases is the step of each state that the run stands at.
+use Rattle.std.proofs.Common.{◌≡◌, ◌≤◌, ◌<◌, ℕ, zero, suc, ◌+◌, ◌-◌, ◌%◌, List, [], ◌∷◌, length, get_or, map, replicate, sum, sum_by, cond, ℤ, pos, arith, refl, sym, ◌∙◌, ap, ap₂}
+use Rattle.std.specs.List.{AllByRecursion, range_with_len}
+use Rattle.std.proofs.Math.Nat.{mod-add-mod, zero-mod}
+use Rattle.std.proofs.lemmas.List.{length-map, length-replicate}
+use Rattle.std.proofs.lemmas.List.FromFn.{length-range_with_len}
+use Rattle.std.proofs.lemmas.List.Sums.{sum-map, sum_by-cons}
+use Rattle.mp_model.specs.Network.{Network, movement_numbers, link_numbers, numbers_to, from_of, goes_out, entry}
+use Rattle.mp_model.specs.NetworkRules.{IsNetwork}
+use Rattle.mp_model.specs.Arrivals.{arrivals_of}
+use Rattle.mp_model.specs.Step.{State, queue, queued, received_by, passed, got, joined, new_queue, departing, step}
+use Rattle.mp_model.specs.Run.{opening}
+use Rattle.mp_laws.proofs.Lists.{at_in, each_in}
+use Rattle.mp_laws.proofs.Lists.{numbered}
+use Rattle.mp_laws.proofs.Order.{joined_same, map-same}
+use Rattle.mp_laws.proofs.Conserved.{step_conserves}
+use Rattle.mp_press.specs.Queues.{naturals, NoneNegative}
+use Rattle.mp_press.proofs.Writes.{numbers_by_all}
+use Rattle.mp_step.specs.Standing.{Standing, splits_of, IsOn, Stands, as_state, closed}
+
+pub map-map : (f g : ℕ → ℕ) (xs : List ℕ) → map f (map g xs) ≡ map (λ x. f (g x)) xs
+map-map f g [] = refl
+map-map f g (x ∷ xs) = ap (λ ys. f (g x) ∷ ys) (map-map f g xs)
+
+-- the phase of a link after a period
+phase_after : (net : Network) (st : Standing) (stages counts : List ℕ) → AllByRecursion (λ l. entry (closed net st stages counts).phases l ≡ (entry st.phases l + got net stages (entry st.queues) (arrivals_of net counts) l) % net.shares) (link_numbers net)
+phase_after net st stages counts =
+    let r : ℕ → ℕ = λ l. entry st.phases l + got net stages (entry st.queues) (arrivals_of net counts) l in
+    each_in _ (link_numbers net) (λ l h. ap (λ ps. entry ps l) (map-map (λ n. n % net.shares) r (link_numbers net)) ∙ numbered (λ l. r l % net.shares) (length net.links) l h)
+
+pub stands_after : (net : Network) → IsNetwork net → (st : Standing) (stages counts : List ℕ) (state : State) → Stands net st state → Stands net (closed net st stages counts) (step net stages (arrivals_of net counts) state)
+stands_after net ok st stages counts state s =
+    let a = arrivals_of net counts in
+    let y : ℕ → ℕ = passed net stages (entry st.queues) in
+    let r : ℕ → ℕ = got net stages (entry st.queues) a in
+    record {
+      queues =
+          map-same (λ k. new_queue net (entry st.queues k) (y k) (entry st.phases (from_of net k)) (r (from_of net k)) k) (λ k. new_queue net (entry st.queues k) (y k) (received_by state (from_of net k)) (r (from_of net k)) k) (movement_numbers net)
+          (each_in _ (movement_numbers net) (λ k h. ap (λ n. entry st.queues k - y k + n) (joined_same net ok (entry st.phases) (received_by state) r s.phases k h)))
+          ∙ ap (λ q. map (λ k. new_queue net (entry q k) (passed net stages (entry q) k) (received_by state (from_of net k)) (got net stages (entry q) a (from_of net k)) k) (movement_numbers net)) s.queues;
+      phases = each_in _ (link_numbers net) (λ l h.
+          at_in (λ l. entry (closed net st stages counts).phases l ≡ (entry st.phases l + r l) % net.shares) l (link_numbers net) h (phase_after net st stages counts)
+          ∙ ap (λ p. (p + r l) % net.shares) (at_in (λ l. entry st.phases l ≡ received_by state l % net.shares) l (link_numbers net) h s.phases)
+          ∙ mod-add-mod (received_by state l) net.shares (r l)
+          ∙ ap (λ q. (received_by state l + got net stages (entry q) a l) % net.shares) s.queues
+          ∙ ap (λ n. n % net.shares) (sym (numbered (λ l. received_by state l + got net stages (queue state) a l) (length net.links) l h)));
+      period = ap (λ n. n + 1) s.period;
+      total_in = ap (λ n. n + sum_by a (link_numbers net)) s.total_in;
+      total_out = ap (λ n. n + departing net stages (entry st.queues)) s.total_out ∙ ap (λ q. state.total_out + departing net stages (entry q)) s.queues;
+    }
+
+below : (n w : ℕ) → 1 ≤ w → n % w < w
+below n w h = omega arith
+
+pub on_after : (net : Network) → IsNetwork net → (st : Standing) (stages counts : List ℕ) → IsOn net st → IsOn net (closed net st stages counts)
+on_after net ok st stages counts on =
+    let r : ℕ → ℕ = λ l. entry st.phases l + got net stages (entry st.queues) (arrivals_of net counts) l in
+    record {
+      queues = length-map (movement_numbers net) _ ∙ length-range_with_len 1 (length net.movements);
+      phases = length-map (map r (link_numbers net)) (λ n. n % net.shares) ∙ length-map (link_numbers net) r ∙ length-range_with_len 1 (length net.links);
+      phase_in = each_in (λ l. entry (closed net st stages counts).phases l < net.shares) (link_numbers net) (λ l h.
+          let e = at_in (λ l. entry (closed net st stages counts).phases l ≡ r l % net.shares) l (link_numbers net) h (phase_after net st stages counts) in
+          let b = below (r l) net.shares ok.shares in
+          omega arith);
+      splits = on.splits;
+    }
+
+sum_numbers : (xs : List ℕ) (n : ℕ) → length xs ≡ n → sum_by (entry xs) (numbers_to n) ≡ sum xs
+sum_numbers xs n size = sym (sum-map (entry xs) (numbers_to n)) ∙ ap sum (sym (numbers_by_all (entry xs) xs n size (λ k h l. refl)))
+
+-- what entered has departed or is queued, after a period as before
+pub closed_conserves : (net : Network) → IsNetwork net → (st : Standing) (stages counts : List ℕ) → IsOn net st → st.total_in ≡ st.total_out + sum st.queues →
+    (closed net st stages counts).total_in ≡ (closed net st stages counts).total_out + sum (closed net st stages counts).queues
+closed_conserves net ok st stages counts on before =
+    let after = closed net st stages counts in
+    let m = length net.movements in
+    omega (
+      arith,
+      step_conserves net ok stages (arrivals_of net counts) (as_state st) (omega (arith, sum_numbers st.queues m on.queues)),
+      sum_numbers after.queues m (on_after net ok st stages counts on).queues,
+    )
+
+-- a list of zeros has 0 at each number
+zeros : (z a n : ℕ) → replicate n z ≡ map (λ k. z) (range_with_len a n)
+zeros z a zero = refl
+zeros z a (suc n) = ap (λ xs. z ∷ xs) (zeros z (a + 1) n)
+
+no_queues : (n : ℕ) → let z : ℕ = 0 in naturals (replicate n (pos z)) ≡ replicate n z
+no_queues zero = refl
+no_queues (suc n) = ap (λ xs. 0 ∷ xs) (no_queues n)
+
+pub opening_queues : (n : ℕ) → naturals (replicate n (pos 0)) ≡ map (λ k. 0) (numbers_to n)
+opening_queues n = no_queues n ∙ zeros 0 1 n
+
+pub zero_at : (n i : ℕ) → let z : ℕ = 0 in get_or (replicate n z) i z ≡ z
+zero_at zero i = refl
+zero_at (suc n) zero = refl
+zero_at (suc n) (suc i) = zero_at n i
+
+-- a run opens where nothing is queued and nothing was received
+pub opens : (net : Network) → IsNetwork net → (qs ps : List ℕ) (splits : List (List ℕ)) → qs ≡ map (λ k. 0) (movement_numbers net) → ps ≡ replicate (length net.links) 0 → splits ≡ splits_of net →
+    IsOn net (record { queues = qs; phases = ps; period = 0; total_in = 0; total_out = 0; splits = splits }) × Stands net (record { queues = qs; phases = ps; period = 0; total_in = 0; total_out = 0; splits = splits }) (opening net)
+opens net ok qs ps splits q p s =
+    let none : (l : ℕ) → entry ps l ≡ 0 = λ l. ap (λ xs. entry xs l) p ∙ zero_at (length net.links) (l - 1) in (
+      record {
+        queues = ap length q ∙ length-map (movement_numbers net) (λ k. 0) ∙ length-range_with_len 1 (length net.movements);
+        phases = ap length p ∙ length-replicate {A = ℕ} (length net.links) 0;
+        phase_in = each_in (λ l. entry ps l < net.shares) (link_numbers net) (λ l h. omega (arith, none l, ok.shares));
+        splits = s;
+      },
+      record {
+        queues = q;
+        phases = each_in _ (link_numbers net) (λ l h. none l ∙ sym (ap (λ n. n % net.shares) (numbered (λ l. 0) (length net.links) l h) ∙ zero-mod net.shares));
+        period = refl;
+        total_in = refl;
+        total_out = refl;
+      },
+    )
+
+-- queues of 0
+pub zeros_positive : (n : ℕ) → NoneNegative (replicate n (pos 0))
+zeros_positive zero = refl
+zeros_positive (suc n) = ap (λ xs. pos 0 ∷ xs) (zeros_positive n)
+
+pub zeros_sum : (n : ℕ) → sum (naturals (replicate n (pos 0))) ≡ 0
+zeros_sum zero = refl
+zeros_sum (suc n) = omega (arith, sum_by-cons (λ x. x) 0 (naturals (replicate n (pos 0))), zeros_sum n)

@@ -1,0 +1,5 @@
+pub mod Stages
+pub mod Moves
+pub mod Signs
+pub mod Closing
+pub mod Following

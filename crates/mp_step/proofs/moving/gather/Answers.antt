@@ -1,0 +1,30 @@
+use Rattle.std.proofs.Common.{◌≡◌, ◌≤◌, ◌<◌, ◌-◌, ◌∙◌, sym, ap, ap₂, arith, rules, get_or, length, ℕ, slice_index}
+use Rattle.mp_model.specs.Network.{entry}
+use Rattle.mp_press.proofs.Known.{all_known, few_kept}
+use Rattle.mp_model.specs.Network.{goes_to, to_of}
+use Rattle.mp_step.proofs.moving.gather.Goals as goal
+
+pub overflow_sub-from : goal.overflow_sub-from
+overflow_sub-from c =
+    let known = rw (sym c.into_link-k-items.ensures) at (all_known (λ k. goes_to (to_of c.args.net.now k) c.args.l) (length c.args.net.now.movements)) in
+    omega (arith, known c.loop-k.k-index 0 c.loop-k-test.true)
+
+pub bounds-passes-from : goal.bounds-passes-from
+bounds-passes-from c =
+    let known = rw (sym c.into_link-k-items.ensures) at (all_known (λ k. goes_to (to_of c.args.net.now k) c.args.l) (length c.args.net.now.movements)) in
+    omega (arith, known c.loop-k.k-index 0 c.loop-k-test.true)
+
+pub overflow_add-sum : goal.overflow_add-sum
+overflow_add-sum c =
+    let few : length c.into_link-k-items.result.now ≤ length c.args.net.now.movements = rw c.into_link-k-items.ensures (few_kept (λ k. goes_to (to_of c.args.net.now k) c.args.l) (length c.args.net.now.movements)) in
+    omega (arith, c.requires.acceptable.range.movements)
+
+pub overflow_add-result : goal.overflow_add-result
+overflow_add-result c =
+    let few : length c.into_link-k-items.result.now ≤ length c.args.net.now.movements = rw c.into_link-k-items.ensures (few_kept (λ k. goes_to (to_of c.args.net.now k) c.args.l) (length c.args.net.now.movements)) in
+    omega (arith, c.requires.acceptable.range.movements)
+
+pub returns-clause-few : goal.returns-clause-few
+returns-clause-few c =
+    let few : length c.into_link-k-items.result.now ≤ length c.args.net.now.movements = rw c.into_link-k-items.ensures (few_kept (λ k. goes_to (to_of c.args.net.now k) c.args.l) (length c.args.net.now.movements)) in
+    omega (arith, c.requires.acceptable.range.movements)

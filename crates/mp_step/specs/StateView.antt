@@ -1,0 +1,28 @@
+-- What a state shows, and what it keeps.
+use Rattle.std.specs.Prelude.{◌≡◌, ◌≤◌, ℕ, ◌+◌, ◌*◌, ◌^◌, length, map, sum}
+use Rattle.mp_press.specs.Queues.{naturals, NoneNegative}
+use Rattle.mp_step.specs.Standing.{Standing}
+use Rattle.mp_step.specs.declared.state.State.TheInside.{Inside}
+
+-- A state shows where the run stands.
+abbrev pub standing_of : Inside → Standing
+standing_of s = record {
+  queues = naturals s.queues.items;
+  phases = s.phases.items;
+  period = s.period;
+  total_in = s.total_in;
+  total_out = s.total_out;
+  splits = map (λ split. split.shares) s.splits.items;
+}
+
+-- No queue is negative, what entered has departed or is queued, and the buffers have their lengths.
+pub record IsKept (s : Inside) : Type 0 where
+  pub some : NoneNegative s.queues.items
+  pub next_some : NoneNegative s.next_queues.items
+  pub period : s.period ≤ 2 ^ 48
+  pub few : s.total_in ≤ s.period * 2 ^ 37
+  pub conserved : s.total_in ≡ s.total_out + sum (naturals s.queues.items)
+  pub next_queues : length s.next_queues.items ≡ length s.queues.items
+  pub passes : length s.passes.items ≡ length s.queues.items
+  pub next_phases : length s.next_phases.items ≡ length s.phases.items
+  pub parts : length s.parts.items ≡ length s.queues.items

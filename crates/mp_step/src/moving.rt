@@ -1,0 +1,171 @@
+// What the links receive, and where their movements then stand.
+ghost use Rattle.std.specs.Prelude.{◌≡◌, ◌≤◌, ◌<◌, ◌+◌, ◌*◌, ◌-◌, ◌%◌, ◌^◌, ℕ, All, length, map, sum, sum_by, slice_set};
+ghost use Rattle.mp_model.specs.Network.{movement_numbers, link_numbers, out_of, into_link, entry};
+ghost use Rattle.mp_model.specs.NetworkRules.{IsAcceptable};
+ghost use Rattle.mp_model.specs.Arrivals.{arrivals_of, HasCounts};
+ghost use Rattle.mp_model.specs.Step.{joined};
+ghost use Rattle.mp_feed.specs.Counts.{gained, places_of};
+ghost use Rattle.mp_press.specs.Queues.{naturals, NoneNegative, AreCounts};
+ghost use Rattle.mp_press.specs.Written.{IsAmong, written};
+ghost use Rattle.mp_step.specs.Settled.{settled};
+ghost use Rattle.mp_step.specs.Standing.{moved, received, splits_of, shares_in};
+
+use mp_feed::Splitter;
+use mp_net::{LinkNo, MovementNo, Net};
+use mp_press::queue_of;
+
+// The arrivals on a link.
+fn arrivals_on(net: &Net, arrivals: &[u64], l: LinkNo) -> u64
+    requires known { (1 ≤ l) × (l ≤ length net.now.links) }
+    requires counts { HasCounts net.now arrivals.now }
+    ensures { result ≡ arrivals_of net.now arrivals.now l }
+{
+    match net.fed_place(l) {
+        Some(i) => arrivals[i],
+        None => 0,
+    }
+}
+
+// What a link receives: its arrivals, and what passes into it.
+fn gather(net: &Net, passes: &[u32], came: u64, l: LinkNo) -> u64
+    requires acceptable { IsAcceptable net.now }
+    requires known { (1 ≤ l) × (l ≤ length net.now.links) }
+    requires size { length passes.now ≡ length net.now.movements }
+    requires each { All (λ y. y ≤ 1000) passes.now }
+    requires digits { came < 10 ^ 9 }
+    ensures value { result ≡ came + sum_by (entry passes.now) (into_link net.now l) }
+    ensures few { result ≤ 2 ^ 32 }
+{
+    let mut sum = 0;
+    for k in net.into_link(l) {
+        sum += u64::from(passes[usize::from(*k) - 1]);
+    }
+    came + sum
+}
+
+// Splits what a link received; most links receive nothing in most periods.
+fn split_among(split: &Splitter, phase: u32, n: u64, parts: &mut [u64]) -> u32
+    requires phase { phase < sum split.now.shares }
+    requires len { length parts.old ≡ length split.now.shares }
+    requires few { n ≤ 2 ^ 32 }
+    ensures parts { parts.new ≡ map (gained split.now.shares phase n) (places_of split.now.shares) }
+    ensures phase { result ≡ (phase + n) % sum split.now.shares }
+{
+    if n == 0 {
+        parts.fill(0);
+        return phase;
+    }
+    split.take_from(phase, n, parts)
+}
+
+fn put_queue(next: &mut [i128], k: MovementNo, queue: u128)
+    requires known { (1 ≤ k) × (k ≤ length next.old) }
+    requires fits { queue < 2 ^ 127 }
+    ensures value { naturals next.new ≡ slice_set (naturals next.old) (k - 1) queue }
+    ensures some { NoneNegative next.old → NoneNegative next.new }
+{
+    next[usize::from(k) - 1] = queue as i128;
+}
+
+// Writes the next queues of the movements out of one link.
+fn settle(queues: &[i128], passes: &[u32], ks: &[MovementNo], parts: &[u64], next: &mut [i128])
+    requires known { All (IsAmong (length queues.now)) ks.now }
+    requires counts { AreCounts queues.now }
+    requires size { length passes.now ≡ length queues.now }
+    requires next_size { length next.old ≡ length queues.now }
+    requires parts { length parts.now ≡ length ks.now }
+    ensures value { naturals next.new ≡ settled (naturals queues.now) passes.now ks.now parts.now (naturals next.old) }
+    ensures some { NoneNegative next.old → NoneNegative next.new }
+{
+    for i in 0..ks.len() {
+        let k = ks[i];
+        let stays = queue_of(queues, k).saturating_sub(u128::from(passes[usize::from(k) - 1]));
+        put_queue(next, k, stays + u128::from(parts[i]));
+    }
+}
+
+// One link: writes the next queues of its movements, and answers its next phase.
+fn move_link(
+    net: &Net,
+    split: &Splitter,
+    l: LinkNo,
+    came: u64,
+    phase: u32,
+    queues: &[i128],
+    passes: &[u32],
+    parts: &mut [u64],
+    next: &mut [i128],
+) -> u32
+    requires acceptable { IsAcceptable net.now }
+    requires known { (1 ≤ l) × (l ≤ length net.now.links) }
+    requires split { split.now.shares ≡ shares_in net.now l }
+    requires digits { came < 10 ^ 9 }
+    requires phase { phase < net.now.shares }
+    requires len { length queues.now ≡ length net.now.movements }
+    requires counts { AreCounts queues.now }
+    requires size { length passes.now ≡ length net.now.movements }
+    requires each { All (λ y. y ≤ 1000) passes.now }
+    requires next_size { length next.old ≡ length net.now.movements }
+    requires room { length parts.old ≡ length net.now.movements }
+    ensures phase { result ≡ (phase + (came + sum_by (entry passes.now) (into_link net.now l))) % net.now.shares }
+    ensures value { naturals next.new ≡ written (λ k. entry (naturals queues.now) k - entry passes.now k + (joined net.now l (phase + (came + sum_by (entry passes.now) (into_link net.now l))) k - joined net.now l phase k)) (out_of net.now l) (naturals next.old) }
+    ensures some { NoneNegative next.old → NoneNegative next.new }
+{
+    let received = gather(net, passes, came, l);
+    let ks = net.out_of(l);
+    let part = &mut parts[..ks.len()];
+    let after = split_among(split, phase, received, part);
+    settle(queues, passes, ks, part, next);
+    after
+}
+
+/// Writes the next queues and phases, and answers the sum of the arrivals.
+pub fn move_all(
+    net: &Net,
+    splits: &[Splitter],
+    arrivals: &[u64],
+    phases: &[u32],
+    queues: &[i128],
+    passes: &[u32],
+    parts: &mut [u64],
+    next: &mut [i128],
+    next_phases: &mut [u32],
+) -> u64
+    requires acceptable { IsAcceptable net.now }
+    requires splits { map (λ split. split.shares) splits.now ≡ splits_of net.now }
+    requires arrivals { HasCounts net.now arrivals.now }
+    requires digits { All (λ a. a < 10 ^ 9) arrivals.now }
+    requires phases { length phases.now ≡ length net.now.links }
+    requires phase_in { All (λ phase. phase < net.now.shares) phases.now }
+    requires len { length queues.now ≡ length net.now.movements }
+    requires counts { AreCounts queues.now }
+    requires size { length passes.now ≡ length net.now.movements }
+    requires each { All (λ y. y ≤ 1000) passes.now }
+    requires next_size { length next.old ≡ length net.now.movements }
+    requires next_phases_size { length next_phases.old ≡ length net.now.links }
+    requires room { length parts.old ≡ length net.now.movements }
+    ensures value { result ≡ sum_by (arrivals_of net.now arrivals.now) (link_numbers net.now) }
+    ensures limit { result ≤ 2 ^ 37 }
+    ensures queues { naturals next.new ≡ map (moved net.now arrivals.now (entry phases.now) (entry (naturals queues.now)) (entry passes.now)) (movement_numbers net.now) }
+    ensures some { NoneNegative next.old → NoneNegative next.new }
+    ensures phases { next_phases.new ≡ map (λ l. (entry phases.now l + received net.now arrivals.now (entry passes.now) l) % net.now.shares) (link_numbers net.now) }
+{
+    let mut sum = 0;
+    for i in 0..net.links() {
+        let at = usize::from(i);
+        let came = arrivals_on(net, arrivals, i + 1);
+        sum += came;
+        next_phases[at] = move_link(
+            net,
+            &splits[at],
+            i + 1,
+            came,
+            phases[at],
+            queues,
+            passes,
+            parts,
+            next,
+        );
+    }
+    sum
+}

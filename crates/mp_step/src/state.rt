@@ -1,0 +1,186 @@
+// Where a run stands.
+ghost use Rattle.std.specs.Prelude.{◌≡◌, ◌≤◌, ◌<◌, ◌+◌, ◌^◌, ℕ, [], ◌∷◌, ◌++◌, All, IfOk, OnOk, map, pos, length, sum};
+ghost use Rattle.mp_model.specs.Network.{entry};
+ghost use Rattle.mp_model.specs.Arrivals.{arrivals_of, HasCounts};
+ghost use Rattle.mp_model.specs.Step.{State as StateOfModel, AreStages, step};
+ghost use Rattle.mp_model.specs.Run.{opening};
+ghost use Rattle.mp_press.specs.Queues.{naturals, AreCounts};
+ghost use Rattle.mp_step.specs.Standing.{Stands, IsOn, closed, shares_in, splits_of};
+
+use crate::moving::move_all;
+use crate::passing::{departed, serve_all};
+use mp_feed::{NoMemory, Splitter};
+use mp_net::{LinkNo, MovementNo, Net, StageNo};
+use mp_press::queue_of;
+use std::alloc::{AllocError, Global};
+use std::marker::Model;
+use std::mem;
+
+/// Where a run stands: the queue of each movement, the phase of each link, the period, and how many
+/// vehicles entered and departed.
+///
+/// A period writes the next queues and phases beside those of now, and then swaps them, so it takes
+/// no memory: all buffers are made at the opening.
+#[derive(Drop)]
+pub struct State {
+    period: u64,
+    queues: Vec<i128>,
+    next_queues: Vec<i128>,
+    phases: Vec<u32>,
+    next_phases: Vec<u32>,
+    total_in: u128,
+    total_out: u128,
+    splits: Vec<Splitter>,
+    // What each movement passes, and how what a link received is split.
+    passes: Vec<u32>,
+    parts: Vec<u64>,
+}
+
+impl Model for State {
+    ghost use Rattle.mp_step.specs.Standing.{Standing};
+    ghost use Rattle.mp_step.specs.StateView.{standing_of, IsKept};
+
+    ghost Value = { Standing };
+
+    ghost view = { standing_of };
+
+    ghost invariant = { IsKept };
+}
+
+impl State {
+    /// The opening of a run: period 0, nothing queued and nothing received.
+    pub fn empty(alloc: Global, net: &Net) -> Result<State, NoMemory>
+        ensures on { IfOk result (λ s. IsOn net.now s) }
+        ensures opening { IfOk result (λ s. Stands net.now s (opening net.now)) }
+    {
+        let _ = net.shares();
+        let movements = usize::from(net.movements());
+        let links = usize::from(net.links());
+        Ok(State {
+            period: 0,
+            queues: vec![in alloc; 0i128; movements]?,
+            next_queues: vec![in alloc; 0i128; movements]?,
+            phases: vec![in alloc; 0u32; links]?,
+            next_phases: vec![in alloc; 0u32; links]?,
+            total_in: 0,
+            total_out: 0,
+            splits: make_splits(alloc, net)?,
+            passes: vec![in alloc; 0u32; movements]?,
+            parts: vec![in alloc; 0u64; movements]?,
+        })
+    }
+
+    /// The queue of the movement, in vehicles.
+    pub fn queue(&self, k: MovementNo) -> i128
+        requires { (1 ≤ k) × (k ≤ length self.now.queues) }
+        ensures { result ≡ pos (entry self.now.queues k) }
+    {
+        queue_of(&self.queues, k) as i128
+    }
+
+    /// The queues, one per movement.
+    pub fn queues(&self) -> &[i128]
+        ensures value { naturals result.now ≡ self.now.queues }
+        ensures counts { AreCounts result.now }
+        ensures few { All (λ q. q ≤ 2 ^ 85) self.now.queues }
+    {
+        &self.queues
+    }
+
+    /// The number of periods so far.
+    pub fn period(&self) -> u64
+        ensures value { result ≡ self.now.period }
+        ensures few { result ≤ 2 ^ 48 }
+    {
+        self.period
+    }
+
+    /// How many vehicles entered: as many as departed and are queued.
+    pub fn total_in(&self) -> u128
+        ensures value { result ≡ self.now.total_in }
+        ensures conserved { self.now.total_in ≡ self.now.total_out + sum self.now.queues }
+        ensures few { result ≤ 2 ^ 85 }
+    {
+        self.total_in
+    }
+
+    /// How many vehicles departed.
+    pub fn total_out(&self) -> u128
+        ensures value { result ≡ self.now.total_out }
+        ensures conserved { self.now.total_in ≡ self.now.total_out + sum self.now.queues }
+        ensures few { result ≤ 2 ^ 85 }
+    {
+        self.total_out
+    }
+
+    /// One period in which the junctions show these stages, one per junction, and these many vehicles
+    /// arrive, one count of at most 9 digits per fed link.
+    ///
+    /// A movement of a shown stage with a positive weight passes the lesser of its flow and its queue,
+    /// by the queues before the period; each link receives its arrivals and what passes into it, and
+    /// splits that among its movements from its phase on.
+    pub fn close(&mut self, net: &Net, stages: &[StageNo], arrivals: &[u64])
+        requires on { IsOn net.now self.old }
+        requires stages { AreStages net.now.junctions stages.now }
+        requires counts { HasCounts net.now arrivals.now }
+        requires digits { All (λ a. a < 10 ^ 9) arrivals.now }
+        requires period { self.old.period < 2 ^ 48 }
+        ensures closed { self.new ≡ closed net.now self.old stages.now arrivals.now }
+        ensures step { (state : StateOfModel) → Stands net.now self.old state → Stands net.now self.new (step net.now stages.now (arrivals_of net.now arrivals.now) state) }
+        ensures on { IsOn net.now self.new }
+        ensures period { self.new.period ≡ self.old.period + 1 }
+    {
+        let _ = net.shares();
+        serve_all(net, stages, &self.queues, &mut self.passes);
+        let came = move_all(
+            net,
+            &self.splits,
+            arrivals,
+            &self.phases,
+            &self.queues,
+            &self.passes,
+            &mut self.parts,
+            &mut self.next_queues,
+            &mut self.next_phases,
+        );
+        let left = departed(net, &self.passes);
+        mem::swap(&mut self.queues, &mut self.next_queues);
+        mem::swap(&mut self.phases, &mut self.next_phases);
+        self.period += 1;
+        self.total_in += u128::from(came);
+        self.total_out += u128::from(left);
+    }
+}
+
+// The shares of the movements out of a link.
+fn shares_of(alloc: Global, net: &Net, l: LinkNo) -> Result<Vec<u32>, AllocError>
+    requires { (1 ≤ l) × (l ≤ length net.now.links) }
+    ensures { IfOk result (λ v. v.items ≡ shares_in net.now l) }
+{
+    let ks = net.out_of(l);
+    let mut shares = Vec::with_capacity(alloc, ks.len())?;
+    for k in ks {
+        shares.push(net.movement(*k).share)?;
+    }
+    Ok(shares)
+}
+
+fn add_split(splits: &mut Vec<Splitter>, split: Splitter) -> Result<(), AllocError>
+    ensures { OnOk result (splits.new.items ≡ splits.old.items ++ split ∷ []) }
+{
+    splits.push(split)?;
+    Ok(())
+}
+
+// A splitter for each link.
+fn make_splits(alloc: Global, net: &Net) -> Result<Vec<Splitter>, NoMemory>
+    ensures { IfOk result (λ v. map (λ split. split.shares) v.items ≡ splits_of net.now) }
+{
+    let _ = net.shares();
+    let mut splits = Vec::with_capacity(alloc, usize::from(net.links()))?;
+    for i in 0..net.links() {
+        let shares = shares_of(alloc, net, i + 1)?;
+        add_split(&mut splits, Splitter::new(alloc, &shares)?)?;
+    }
+    Ok(splits)
+}
