@@ -132,3 +132,45 @@ list_any-range_more test a (suc n) =
     one : (b : Bool) → (b || (list_any test (range_with_len (a + 1) n) || test (a + 1 + n))) ≡ ((b || list_any test (range_with_len (a + 1) n)) || test (a + 1 + n))
     one true = refl
     one false = refl
+
+-- ---- lists of any entries
+
+pub or_none : (a b : Bool) → (a || b) ≡ false → (a ≡ false) × (b ≡ false)
+or_none true b h = absurd (false≢true (sym h))
+or_none false b h = (refl, h)
+
+pub none_in : {X : Type 0} (test : X → Bool) (xs : List X) → list_any test xs ≡ false → AllByRecursion (λ x. test x ≡ false) xs
+none_in test [] h = tt
+none_in test (x ∷ xs) h = let p = or_none (test x) (list_any test xs) h in (p.0, none_in test xs p.1)
+
+pub in_none : {X : Type 0} (test : X → Bool) (xs : List X) → AllByRecursion (λ x. test x ≡ false) xs → list_any test xs ≡ false
+in_none test [] h = refl
+in_none test (x ∷ xs) h = rw h.0 (in_none test xs h.1)
+
+pub all_more : {X : Type 0} (P Q : X → Type 0) (xs : List X) → ((x : X) → P x → Q x) → AllByRecursion P xs → AllByRecursion Q xs
+all_more P Q [] f h = tt
+all_more P Q (x ∷ xs) f h = (f x h.0, all_more P Q xs f h.1)
+
+pub all_both : {X : Type 0} (P Q : X → Type 0) (xs : List X) → AllByRecursion P xs → AllByRecursion Q xs → AllByRecursion (λ x. P x × Q x) xs
+all_both P Q [] h k = tt
+all_both P Q (x ∷ xs) h k = ((h.0, k.0), all_both P Q xs h.1 k.1)
+
+pub any_more : {X : Type 0} (p q : X → Bool) (xs : List X) → ((x : X) → p x ≡ true → q x ≡ true) → list_any p xs ≡ true → list_any q xs ≡ true
+any_more p q [] f h = absurd (false≢true h)
+any_more p q (x ∷ xs) f h =
+    elim (cases_Bool (p x)) [
+      | inl one ↦ rw (f x one)
+      | inr none ↦ elim (cases_Bool (q x)) [
+        | inl yes_q ↦ rw yes_q
+        | inr no_q ↦ rw no_q (any_more p q xs f (rw none at h))
+      ]
+    ]
+
+-- an entry that passes, out of those that are asked
+pub passing_entry : {X : Type 0} (p : X → Bool) (xs : List X) → list_any p xs ≡ true → (x : X) × (list_any (λ (y : X). p y) xs ≡ true) × (p x ≡ true)
+passing_entry p [] h = absurd (false≢true h)
+passing_entry p (x ∷ xs) h =
+    elim (cases_Bool (p x)) [
+      | inl one ↦ (x, h, one)
+      | inr none ↦ let r = passing_entry p xs (rw none at h) in (r.0, h, r.2)
+    ]
