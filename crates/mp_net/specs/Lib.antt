@@ -8,5 +8,6 @@ pub mod RepeatRules
 pub mod LinkRules
 pub mod StageRules
 pub mod WayRules
+pub mod Marks
 pub mod Rules
 pub mod Refused
