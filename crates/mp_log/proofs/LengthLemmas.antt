@@ -12,16 +12,20 @@ pub spaced_signed : (ns : List ℕ) → flat_map (λ n. 32 ∷ signed_decimal n)
 spaced_signed [] = refl
 spaced_signed (n ∷ ns) = ap (λ xs. (32 ∷ decimal n) ++ xs) (spaced_signed ns)
 
--- numbers below 10 ^ k have at most k digits each
-pub spaced_short : (k : ℕ) (ns : List ℕ) → 0 < k → k ≤ 60 → All (λ n. n < 10 ^ k) ns → length (spaced ns) ≤ length ns * (k + 1)
-spaced_short k [] some few all = omega arith
-spaced_short k (n ∷ ns) some few all =
-    let low = All-head (λ m. m < 10 ^ k) n ns all in
-    let rest = spaced_short k ns some few (All-tail (λ m. m < 10 ^ k) n ns all) in
-    let here = length-decimal-le_wide k n some low (small k n few low) in
-    omega (arith, length-append (32 ∷ decimal n) (spaced ns)) where
-  small : (k n : ℕ) → k ≤ 60 → n < 10 ^ k → n < 10 ^ 64
-  small k n few low = ?
+-- numbers of at most k digits
+pub spaced_short : (k : ℕ) (ns : List ℕ) → All (λ n. length (decimal n) ≤ k) ns → length (spaced ns) ≤ length ns * (k + 1)
+spaced_short k [] all = omega arith
+spaced_short k (n ∷ ns) all =
+    omega (arith, length-append (32 ∷ decimal n) (spaced ns), All-head (λ m. length (decimal m) ≤ k) n ns all, spaced_short k ns (All-tail (λ m. length (decimal m) ≤ k) n ns all))
+
+nine_digits : (n : ℕ) → n < 10 ^ 9 → length (decimal n) ≤ 9
+nine_digits n low = length-decimal-le_wide 9 n (omega arith) low (omega arith)
+
+two_digits : (n : ℕ) → n ≤ 16 → length (decimal n) ≤ 2
+two_digits n low = length-decimal-le_wide 2 n (omega arith) (omega arith) (omega arith)
+
+wide_digits : (n : ℕ) → n ≤ 2 ^ 85 → length (decimal n) ≤ 26
+wide_digits n low = length-decimal-le_wide 26 n (omega arith) (omega arith) (omega arith)
 
 -- what a line that fits takes of the buffer
 pub record IsShort (arrivals stages : List ℕ) (queues : List ℤ) : Type 0 where
@@ -31,10 +35,10 @@ pub record IsShort (arrivals stages : List ℕ) (queues : List ℤ) : Type 0 whe
 
 pub short : (period : ℕ) (arrivals stages : List ℕ) (queues : List ℤ) → FitsLine period arrivals stages queues → IsShort arrivals stages queues
 short period arrivals stages queues f = record {
-  arrivals_short = let h = spaced_short 9 arrivals (omega arith) (omega arith) f.arrivals_in in let few = f.few_arrivals in omega arith;
-  stages_short = let h = spaced_short 2 stages (omega arith) (omega arith) (λ k d low. let s = f.stages_in k d low in omega arith) in let few = f.few_stages in omega arith;
+  arrivals_short = let h = spaced_short 9 arrivals (λ k d low. nine_digits (get_or arrivals k d) (f.arrivals_in k d low)) in let few = f.few_arrivals in omega arith;
+  stages_short = let h = spaced_short 2 stages (λ k d low. two_digits (get_or stages k d) (f.stages_in k d low)) in let few = f.few_stages in omega arith;
   queues_short =
-      let h = spaced_short 26 f.counts (omega arith) (omega arith) (λ k d low. let s = f.queues_in k d low in omega arith) in
+      let h = spaced_short 26 f.counts (λ k d low. wide_digits (get_or f.counts k d) (f.queues_in k d low)) in
       let size = ap length f.none_negative in
       let few = f.few_queues in
       let text = ap (λ qs. length (flat_map (λ q. 32 ∷ signed_decimal q) qs)) f.none_negative ∙ ap length (spaced_signed f.counts) in

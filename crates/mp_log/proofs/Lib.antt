@@ -1,4 +1,5 @@
 pub mod BlankLemmas
 pub mod CountLemmas
+pub mod FedLemmas
 pub mod KindLemmas
 pub mod LengthLemmas

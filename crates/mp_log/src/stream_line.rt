@@ -144,6 +144,7 @@ pub fn read_line(net: &Net, line: &[u8], into: &mut ArrayVec<u64, 128>) -> Strea
     if is_skipped(line) {
         return StreamLine::Skipped;
     }
+    let _ = net.links();
     let fed = net.fed();
     if read_counts(line, fed.len(), into) {
         StreamLine::Arrivals

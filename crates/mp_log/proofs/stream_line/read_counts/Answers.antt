@@ -16,7 +16,7 @@ returns-then-not-push_count-clause-none c = λ _. (
 pub loop-at-preserved : goal.loop-at-preserved
 loop-at-preserved c =
     let p = c.if-not-push_count.ensures.pushed (search rules) in
-    record { digits = rw p.1.2 (All-push (λ a. a < 10 ^ 9) c.loop-at.into.items p.1.0 c.loop-at.invariant.digits p.1.3); few = omega (arith, ap length p.1.2, length-append c.loop-at.into.items (p.1.0 ∷ [])); so_far = rw p.1.2 (read_more c.loop-at.into.items c.loop-at.rest.now _ _ c.in-Some.at p.1.0 c.loop-at.invariant.so_far (search rules) p.1.1 (search rules)) }
+    record { digits = rw p.1.2 (All-push (λ a. a < 10 ^ 9) c.loop-at.into.items p.1.0 c.loop-at.invariant.digits p.1.3); few = omega (arith, ap length p.1.2, length-append c.loop-at.into.items (p.1.0 ∷ [])); so_far = rw p.1.2 (read_more c.loop-at.into.items c.loop-at.rest.now c.behind-rest.result.now _ c.in-Some.at p.1.0 c.loop-at.invariant.so_far (search rules) p.1.1 c.behind-rest.ensures) }
 
 pub returns-then-not-push_count-2-clause-none : goal.returns-then-not-push_count-2-clause-none
 returns-then-not-push_count-2-clause-none c = λ _. (
@@ -43,5 +43,5 @@ returns-clause-digits c =
     let p = c.if-not-push_count-2.ensures.pushed (search rules) in
     λ _. rw p.1.2 (All-push (λ a. a < 10 ^ 9) c.loop-at.into.items p.1.0 c.loop-at.invariant.digits p.1.3)
 
-pub behind-requires : goal.behind-requires
-behind-requires c = comma_within c.loop-at.rest.now c.in-Some.at (search rules)
+pub behind-rest-requires : goal.behind-rest-requires
+behind-rest-requires c = comma_within c.loop-at.rest.now c.in-Some.at (search rules)
