@@ -15,10 +15,10 @@ use Rattle.mp_net.proofs.Places.{entries_from_numbers, entry_at, holder_at, once
 
 -- ---- movements that are there
 
-is_there : (net : Network) (k : ℕ) → movement_is_there net k ≡ true → has (movement_numbers net) k ≡ true
+pub is_there : (net : Network) (k : ℕ) → movement_is_there net k ≡ true → has (movement_numbers net) k ≡ true
 is_there net k h = let p = and_parts (nat_le 1 k) (nat_le k (length net.movements)) h in of_range 1 (length net.movements) k (grind (arith, nat_tests)) (grind (arith, nat_tests))
 
-of_there : (net : Network) (k : ℕ) → has (movement_numbers net) k ≡ true → movement_is_there net k ≡ true
+pub of_there : (net : Network) (k : ℕ) → has (movement_numbers net) k ≡ true → movement_is_there net k ≡ true
 of_there net k h = let r = in_range 1 (length net.movements) k h in let low : 1 ≤ k = r.0 in let high : k ≤ length net.movements = omega (arith, r.1) in grind (arith, nat_tests)
 
 -- ---- stages of movements that are there, none twice
@@ -38,7 +38,7 @@ distinct_stage net (k ∷ ks) h there =
     second true b e h = h
     second false b e h = absurd (false≢true e)
 
-no_repeat_in : (net : Network) (ks : List ℕ) → IsDistinct ◌==◌ ks → repeats_movement net ks ≡ false
+pub no_repeat_in : (net : Network) (ks : List ℕ) → IsDistinct ◌==◌ ks → repeats_movement net ks ≡ false
 unfolding IsDistinct
 no_repeat_in net [] h = refl
 no_repeat_in net (k ∷ ks) h =

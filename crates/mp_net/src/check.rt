@@ -1,5 +1,5 @@
 //! The rules of a network's parts, in their order.
-ghost use Rattle.std.specs.Prelude.{◌≡◌, None, Some, OnOk, IfErr};
+ghost use Rattle.std.specs.Prelude.{◌≡◌, None, Some, OnOk, IfErr, IsOkUnless};
 ghost use Rattle.mp_model.specs.NetworkRules.{IsAcceptable};
 ghost use Rattle.mp_net.specs.Parts.{network_of};
 ghost use Rattle.mp_net.specs.Spots.{first_broken};
@@ -46,6 +46,7 @@ pub fn check_parts(alloc: Global, parts: &NetParts) -> Result<(), NetFault>
     ensures ok { OnOk result (first_broken (part_rules (network_of parts.now)) ≡ None) }
     ensures acceptable { OnOk result (IsAcceptable (network_of parts.now)) }
     ensures refused { IfErr result (IsFirst (first_broken (part_rules (network_of parts.now)))) }
+    ensures complete { IsAcceptable (network_of parts.now) → IsOkUnless result NetFault.NoMemory }
 {
     parts_have_names(parts);
     try_rules(alloc, parts)
