@@ -1,6 +1,7 @@
 -- What the rules on links say of a network.
 use Rattle.std.proofs.Common.{◌≡◌, ◌==◌, ◌&&◌, ◌||◌, ℕ, ◌+◌, ◌≤◌, ◌<◌, Bool, true, false, not, nat_le, length, Option, Some, None, IfSome, List, [], ◌∷◌, sum_by, refl, sym, ◌∙◌, inl, inr, arith}
 use Rattle.std.specs.List.{AllByRecursion, list_any, find, filter}
+use Rattle.std.proofs.lemmas.List.Sums.{sum_by-cons}
 use Rattle.std.proofs.lemmas.Bool.{false≢true, and_parts, cases_Bool}
 use Rattle.std.proofs.lemmas.Bool.Decides.{nat_tests}
 use Rattle.mp_model.specs.Network.{Network, from_of, to_of, share_of, out_of, link_at, is_fed, fed, movement_numbers, link_numbers, has}
@@ -77,6 +78,24 @@ no_bad_shares net split =
     (nothing_found (has_bad_shares net) (link_numbers net) (λ l h.
       wrong_sum (has_movement net l) (sum_by (share_of net) (out_of net l)) net.shares (all_each (λ m. sum_by (share_of net) (out_of net m) ≡ net.shares) (link_numbers net) l split h)))
     refl refl
+
+-- a term is no more than the sum
+term_below : (f : ℕ → ℕ) (ks : List ℕ) (k : ℕ) → has ks k ≡ true → f k ≤ sum_by f ks
+term_below f [] k h = absurd (false≢true h)
+term_below f (x ∷ ks) k h =
+    elim (cases_Bool (x == k)) [
+      | inl here ↦ let same : x ≡ k = grind (arith, nat_tests) in rw (← same) (omega (arith, sum_by-cons f x ks))
+      | inr other ↦ omega (arith, sum_by-cons f x ks, term_below f ks k (rw other at h))
+    ]
+
+-- a share is at most the total
+pub few_shares : (net : Network) → HasItsLinks net → IsSplit net → AllByRecursion (λ k. share_of net k ≤ net.shares) (movement_numbers net)
+few_shares net there split = each_all (λ k. share_of net k ≤ net.shares) (movement_numbers net) (λ k h.
+  let l = from_of net k in
+  let link = all_each (λ i. has (link_numbers net) (from_of net i) ≡ true) (movement_numbers net) k there.from h in
+  let sum = all_each (λ m. sum_by (share_of net) (out_of net m) ≡ net.shares) (link_numbers net) l split link in
+  let self : (l == l) ≡ true = grind (arith, nat_tests) in
+  omega (arith, sum, term_below (share_of net) (out_of net l) k (of_filter (λ x. from_of net x == l) (movement_numbers net) k h self)))
 
 -- a sum that is not 0 has a term
 some_term : (f : ℕ → ℕ) (p : ℕ → Bool) (ks : List ℕ) → 1 ≤ sum_by f (filter p ks) → list_any p ks ≡ true
