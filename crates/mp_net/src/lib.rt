@@ -9,6 +9,8 @@ mod outlets;
 mod parts;
 mod rules;
 mod tables;
+#[cfg(test)]
+mod tests;
 
 pub use check::check_parts;
 pub use constructor::build;
