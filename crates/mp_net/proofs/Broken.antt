@@ -1,5 +1,5 @@
 -- Where no rule is broken, each spot is none, and the other way round.
-use Rattle.std.proofs.Common.{◌≡◌, ℕ, Bool, true, false, List, [], ◌∷◌, Option, Some, None, Result, Ok, Err, refl, ap, sym, ◌∙◌}
+use Rattle.std.proofs.Common.{◌≡◌, ℕ, Bool, true, false, List, [], ◌∷◌, Option, Some, None, Result, Ok, Err, OnOk, IfErr, IsOkUnless, refl, ap, sym, ◌∙◌}
 use Rattle.mp_model.specs.Network.{Network}
 use Rattle.mp_net.specs.Spots.{first_spot, or_later, first_broken}
 use Rattle.mp_net.specs.NumberRules.{bad_number, bad_link_name}
@@ -8,8 +8,9 @@ use Rattle.mp_net.specs.LinkRules.{unknown_link, bad_shares, no_movement_out, no
 use Rattle.mp_net.specs.StageRules.{bad_stage, unserved}
 use Rattle.mp_net.specs.WayRules.{no_way_out}
 use Rattle.mp_net.specs.Rules.{part_rules}
-use Rattle.mp_net.specs.Refused.{refusal}
+use Rattle.mp_net.specs.Refused.{refusal, IsFirst}
 use Rattle.mp_net.specs.declared.fault.NetFault.{NetFault}
+use Rattle.mp_net.specs.declared.fault.NetFault.TheVariants.{Rule, NoMemory}
 use Rattle.mp_net.specs.declared.fault.NetRule.{NetRule}
 use Rattle.mp_net.specs.declared.fault.NetRule.TheVariants as rule
 use Rattle.mp_net.specs.declared.fault.Spot.{Spot}
@@ -76,3 +77,13 @@ no_spot false None None None h = (refl, refl, refl, refl)
 
 pub spot_none : (top : Bool) (l k j : Option ℕ) → top ≡ false → l ≡ None → k ≡ None → j ≡ None → first_spot top l k j ≡ None
 spot_none top l k j a b c d = rw (a, b, c, d)
+
+pub on_ok : (r : Result (Unit {0}) NetFault) (P Q : Type 0) → (P → Q) → OnOk r P → OnOk r Q
+on_ok (Ok v) P Q f h = f h
+on_ok (Err e) P Q f h = tt
+
+-- where no rule is broken, only want of memory refuses
+pub not_by_rule : (r : Result (Unit {0}) NetFault) (broken : Option (NetRule × Spot)) → IfErr r (IsFirst broken) → broken ≡ None → IsOkUnless r NoMemory
+not_by_rule (Ok v) broken h none = tt
+not_by_rule (Err (Rule name spot)) broken h none = absurd (cc)
+not_by_rule (Err NoMemory) broken h none = refl

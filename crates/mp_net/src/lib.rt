@@ -2,14 +2,18 @@
 #![tactic(auto)]
 
 mod check;
+mod constructor;
 mod fault;
 mod net;
 mod outlets;
 mod parts;
 mod rules;
 mod tables;
+#[cfg(test)]
+mod tests;
 
 pub use check::check_parts;
+pub use constructor::build;
 pub use fault::{NetFault, NetRule, NoMemory, Section, Spot};
 pub use net::Net;
 pub use outlets::way_out;

@@ -1,8 +1,11 @@
-use Rattle.std.proofs.Common.{◌∙◌, sym}
 use Rattle.mp_net.specs.Parts.{network_of}
-use Rattle.mp_net.proofs.Broken.{passed}
-use Rattle.mp_net.proofs.LinkLaw.{its_links}
+use Rattle.mp_net.proofs.Broken.{on_ok, not_by_rule}
+use Rattle.mp_net.proofs.AcceptLaw.{accepted}
+use Rattle.mp_net.proofs.AcceptConverse.{not_refused}
 use Rattle.mp_net.proofs.check.check_parts.Goals as goal
 
-pub no_way_out-requires-clause-links : goal.no_way_out-requires-clause-links
-no_way_out-requires-clause-links c = its_links (network_of c.args.parts.now) (sym c.unknown_link.ensures ∙ passed _ c.unknown_link.result _ _ c.require-4.ensures c.in_ok-require-4.was)
+pub returns-clause-acceptable : goal.returns-clause-acceptable
+returns-clause-acceptable c = on_ok c.try_rules.result _ _ (accepted (network_of c.args.parts.now) c.parts_have_names.ensures) c.try_rules.ensures.ok
+
+pub returns-clause-complete : goal.returns-clause-complete
+returns-clause-complete c = λ h. not_by_rule c.try_rules.result _ c.try_rules.ensures.refused (not_refused (network_of c.args.parts.now) h)
