@@ -53,6 +53,7 @@ fn close_period<Out: Sink>(
     ensures period { state.new.period ≡ state.old.period + 1 }
     ensures cause { HasCause (Out.faults out.old) (Out.faults out.new) result }
 {
+    let _ = net.shares();
     choose_all(net, state.queues(), stages);
     state.close(net, stages, arrivals);
     put_period(out, state.period(), arrivals, stages, state.queues())
