@@ -1,5 +1,5 @@
 -- Where no rule is broken, each spot is none, and the other way round.
-use Rattle.std.proofs.Common.{◌≡◌, ℕ, Bool, true, false, List, [], ◌∷◌, Option, Some, None, Result, Ok, Err, refl, ap, sym, ◌∙◌}
+use Rattle.std.proofs.Common.{◌≡◌, ℕ, Bool, true, false, List, [], ◌∷◌, Option, Some, None, Result, Ok, Err, OnOk, refl, ap, sym, ◌∙◌}
 use Rattle.mp_model.specs.Network.{Network}
 use Rattle.mp_net.specs.Spots.{first_spot, or_later, first_broken}
 use Rattle.mp_net.specs.NumberRules.{bad_number, bad_link_name}
@@ -76,3 +76,7 @@ no_spot false None None None h = (refl, refl, refl, refl)
 
 pub spot_none : (top : Bool) (l k j : Option ℕ) → top ≡ false → l ≡ None → k ≡ None → j ≡ None → first_spot top l k j ≡ None
 spot_none top l k j a b c d = rw (a, b, c, d)
+
+pub on_ok : (r : Result (Unit {0}) NetFault) (P Q : Type 0) → (P → Q) → OnOk r P → OnOk r Q
+on_ok (Ok v) P Q f h = f h
+on_ok (Err e) P Q f h = tt

@@ -1,6 +1,6 @@
 -- Lists of numbers: what is asked of them, searched in them and filtered out of them.
 use Rattle.std.proofs.Common.{◌≡◌, ◌==◌, ◌&&◌, ◌||◌, ℕ, zero, suc, ◌+◌, ◌-◌, ◌≤◌, ◌<◌, Bool, true, false, cond, List, [], ◌∷◌, Option, Some, None, filter, refl, sym, ◌∙◌, ap, inl, inr, arith}
-use Rattle.std.specs.List.{AllByRecursion, list_any, find, range_with_len}
+use Rattle.std.specs.List.{AllByRecursion, list_any, list_all, find, range_with_len}
 use Rattle.std.proofs.lemmas.Bool.{and_parts, false≢true, cases_Bool}
 use Rattle.std.proofs.lemmas.Bool.Decides.{nat_tests}
 use Rattle.mp_model.specs.Network.{has}
@@ -166,11 +166,19 @@ any_more p q (x ∷ xs) f h =
       ]
     ]
 
--- an entry that passes, out of those that are asked
-pub passing_entry : {X : Type 0} (p : X → Bool) (xs : List X) → list_any p xs ≡ true → (x : X) × (list_any (λ (y : X). p y) xs ≡ true) × (p x ≡ true)
-passing_entry p [] h = absurd (false≢true h)
-passing_entry p (x ∷ xs) h =
-    elim (cases_Bool (p x)) [
-      | inl one ↦ (x, h, one)
-      | inr none ↦ let r = passing_entry p xs (rw none at h) in (r.0, h, r.2)
+-- a number that passes, out of some lists
+pub passing_in : (test : ℕ → Bool) (lists : List (List ℕ)) → list_any (list_any test) lists ≡ true → (k : ℕ) × (list_any (λ ks. has ks k) lists ≡ true) × (test k ≡ true)
+passing_in test [] h = absurd (false≢true h)
+passing_in test (ks ∷ lists) h =
+    elim (cases_Bool (list_any test ks)) [
+      | inl here ↦ let p = passing test ks here in (p.0, rw p.1, p.2)
+      | inr other ↦ let p = passing_in test lists (rw other at h) in (p.0, later (has ks p.0) (list_any (λ ls. has ls p.0) lists) p.1, p.2)
     ]
+  where
+    later : (a b : Bool) → b ≡ true → (a || b) ≡ true
+    later true b e = refl
+    later false b e = e
+
+pub all_pass : {X : Type 0} (p : X → Bool) (xs : List X) → list_all p xs ≡ true → AllByRecursion (λ x. p x ≡ true) xs
+all_pass p [] h = tt
+all_pass p (x ∷ xs) h = let (here, later) = and_parts (p x) (list_all p xs) h in (here, all_pass p xs later)

@@ -1,6 +1,7 @@
 pub mod Parts
 pub mod Tables
 pub mod Small
+pub mod Named
 pub mod Spots
 pub mod NumberRules
 pub mod RepeatRules

@@ -1,10 +1,10 @@
-//! The rules on numbers, and on the names of links.
+//! The rules on numbers.
 ghost use Rattle.std.specs.Prelude.{◌≡◌, ◌≤◌, length, IfNone, false};
 ghost use Rattle.std.specs.List.{find};
 ghost use Rattle.mp_model.specs.Network.{link_numbers, movement_numbers, junction_numbers};
 ghost use Rattle.mp_net.specs.Parts.{network_of};
 ghost use Rattle.mp_net.specs.Small.{IsSmall};
-ghost use Rattle.mp_net.specs.NumberRules.{outside, top_has_bad_number, link_has_bad_number, movement_has_bad_number, junction_has_bad_number, bad_number, is_named_out, bad_link_name};
+ghost use Rattle.mp_net.specs.NumberRules.{outside, top_has_bad_number, link_has_bad_number, movement_has_bad_number, junction_has_bad_number, bad_number};
 
 use crate::rules::spot::first_spot;
 use crate::{NetParts, Spot};
@@ -85,26 +85,4 @@ pub fn bad_number(parts: &NetParts) -> Option<Spot>
         first_bad_movement(parts),
         first_bad_junction(parts),
     )
-}
-
-fn is_named_out(parts: &NetParts, l: u32) -> bool
-    requires { (1 ≤ l) × (l ≤ length parts.now.links.items) }
-    ensures { result ≡ is_named_out (network_of parts.now) l }
-{
-    parts.links[l as usize - 1].name.bytes() == b"out".as_slice()
-}
-
-fn first_named_out(parts: &NetParts) -> Option<u32>
-    requires { IsSmall parts.now }
-    ensures { result ≡ find (is_named_out (network_of parts.now)) (link_numbers (network_of parts.now)) }
-{
-    (1..parts.links.len() as u32 + 1).find(|l| is_named_out(parts, *l))
-}
-
-/// The first link that is named `out`.
-pub fn bad_link_name(parts: &NetParts) -> Option<Spot>
-    requires { IsSmall parts.now }
-    ensures { result ≡ bad_link_name (network_of parts.now) }
-{
-    first_spot(false, first_named_out(parts), None, None)
 }
