@@ -27,9 +27,9 @@ pub list_by_number : {X : Type 0} (of : X → List ℕ) (xs : List X) (f : ℕ �
 list_by_number of xs f n e l low high d =
     sym (get_or-map of xs (l - 1) d [] (omega (arith, length_by_number of xs f n e))) ∙ ap (λ t. get_or t (l - 1) []) e ∙ get_or-map-range_with_len f 1 n (l - 1) l [] (omega arith) (omega arith)
 
--- a table of numbers by numbers
-pub numbers_count : (xs : List ℕ) (f : ℕ → ℕ) (n : ℕ) → xs ≡ map f (range_with_len 1 n) → length xs ≡ n
-numbers_count xs f n e = ap length e ∙ length-map (range_with_len 1 n) f ∙ length-range_with_len 1 n
+-- a table of values by numbers
+pub values_count : {X : Type 0} (xs : List X) (f : ℕ → X) (n : ℕ) → xs ≡ map f (range_with_len 1 n) → length xs ≡ n
+values_count xs f n e = ap length e ∙ length-map (range_with_len 1 n) f ∙ length-range_with_len 1 n
 
-pub number_by_number : (xs : List ℕ) (f : ℕ → ℕ) (n : ℕ) → xs ≡ map f (range_with_len 1 n) → (l : ℕ) → 1 ≤ l → l ≤ n → (d : ℕ) → get_or xs (l - 1) d ≡ f l
-number_by_number xs f n e l low high d = ap (λ t. get_or t (l - 1) d) e ∙ get_or-map-range_with_len f 1 n (l - 1) l d (omega arith) (omega arith)
+pub value_by_number : {X : Type 0} (xs : List X) (f : ℕ → X) (n : ℕ) → xs ≡ map f (range_with_len 1 n) → (l : ℕ) → 1 ≤ l → l ≤ n → (d : X) → get_or xs (l - 1) d ≡ f l
+value_by_number xs f n e l low high d = ap (λ t. get_or t (l - 1) d) e ∙ get_or-map-range_with_len f 1 n (l - 1) l d (omega arith) (omega arith)

@@ -1,5 +1,5 @@
 //! A network that meets the rules, with its tables of neighbours.
-ghost use Rattle.std.specs.Prelude.{◌≡◌, ◌≤◌, ℕ, length};
+ghost use Rattle.std.specs.Prelude.{◌≡◌, ◌==◌, ◌≤◌, ℕ, length, position};
 ghost use Rattle.mp_model.specs.Network.{link_at, movement_at, junction_at, stage_at, share_of, flow_of, from_of, to_of, out_of, into_link, junction_of_link, fed, own, targets, next};
 ghost use Rattle.mp_model.specs.NetworkRules.{IsAcceptable};
 ghost use Rattle.mp_net.specs.Parts.{link_of, movement_of, junction_of};
@@ -18,6 +18,7 @@ pub struct Net {
     outs: Vec<Vec<MovementNo>>,
     intos: Vec<Vec<MovementNo>>,
     places: Vec<JunctionNo>,
+    fed_places: Vec<Option<usize>>,
     // By junction.
     owns: Vec<Vec<MovementNo>>,
     targets: Vec<Vec<LinkNo>>,
@@ -154,6 +155,14 @@ impl Net {
         ensures { result.now ≡ fed self.now }
     {
         &self.fed
+    }
+
+    /// The place of the link among the fed links, from 0, or none where it is not fed.
+    pub fn fed_place(&self, l: LinkNo) -> Option<usize>
+        requires { (1 ≤ l) × (l ≤ length self.now.links) }
+        ensures { result ≡ position (λ f. f == l) (fed self.now) }
+    {
+        self.fed_places[usize::from(l) - 1]
     }
 
     /// The movements of the junction, in ascending order.
