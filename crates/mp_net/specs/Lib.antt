@@ -1,4 +1,5 @@
 pub mod Parts
+pub mod Rows
 pub mod Tables
 pub mod Small
 pub mod Named

@@ -7,6 +7,7 @@ mod net;
 mod outlets;
 mod parts;
 mod rules;
+mod tables;
 
 pub use check::check_parts;
 pub use fault::{NetFault, NetRule, NoMemory, Section, Spot};

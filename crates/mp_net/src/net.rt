@@ -1,12 +1,14 @@
 //! A network that meets the rules, with its tables of neighbours.
-ghost use Rattle.std.specs.Prelude.{◌≡◌, ◌==◌, ◌≤◌, ℕ, length, position};
+ghost use Rattle.std.specs.Prelude.{◌≡◌, ◌==◌, ◌≤◌, ℕ, length, position, IfOk};
 ghost use Rattle.mp_model.specs.Network.{link_at, movement_at, junction_at, stage_at, share_of, flow_of, from_of, to_of, out_of, into_link, junction_of_link, fed, own, targets, next};
 ghost use Rattle.mp_model.specs.NetworkRules.{IsAcceptable};
-ghost use Rattle.mp_net.specs.Parts.{link_of, movement_of, junction_of};
+ghost use Rattle.mp_net.specs.Parts.{network_of, link_of, movement_of, junction_of};
 
+use crate::tables::{JunctionRow, LinkRow, fed, junction_rows, link_rows};
 use crate::{
     JunctionNo, JunctionPart, LinkNo, LinkPart, MovementNo, MovementPart, NetParts, StageNo,
 };
+use std::alloc::{AllocError, Global};
 use std::marker::Model;
 
 /// A network that meets the rules. Callers see it as lists numbered from 1.
@@ -14,15 +16,8 @@ use std::marker::Model;
 pub struct Net {
     parts: NetParts,
     fed: Vec<LinkNo>,
-    // By link.
-    outs: Vec<Vec<MovementNo>>,
-    intos: Vec<Vec<MovementNo>>,
-    places: Vec<JunctionNo>,
-    fed_places: Vec<Option<usize>>,
-    // By junction.
-    owns: Vec<Vec<MovementNo>>,
-    targets: Vec<Vec<LinkNo>>,
-    nexts: Vec<Vec<MovementNo>>,
+    by_link: Vec<LinkRow>,
+    by_junction: Vec<JunctionRow>,
 }
 
 impl Model for Net {
@@ -37,6 +32,22 @@ impl Model for Net {
 }
 
 impl Net {
+    /// The network of these parts, with its tables.
+    pub(crate) fn with_tables(alloc: Global, parts: NetParts) -> Result<Net, AllocError>
+        requires { IsAcceptable (network_of parts) }
+        ensures { IfOk result (λ net. net ≡ network_of parts) }
+    {
+        let fed = fed(alloc, &parts)?;
+        let by_link = link_rows(alloc, &parts, &fed)?;
+        let by_junction = junction_rows(alloc, &parts)?;
+        Ok(Net {
+            parts,
+            fed,
+            by_link,
+            by_junction,
+        })
+    }
+
     /// The share total.
     pub fn shares(&self) -> u32
         ensures value { result ≡ self.now.shares }
@@ -131,7 +142,7 @@ impl Net {
         requires { (1 ≤ l) × (l ≤ length self.now.links) }
         ensures { result.now ≡ out_of self.now l }
     {
-        &self.outs[usize::from(l) - 1]
+        &self.by_link[usize::from(l) - 1].outs
     }
 
     /// The movements into the link, in ascending order.
@@ -139,7 +150,7 @@ impl Net {
         requires { (1 ≤ l) × (l ≤ length self.now.links) }
         ensures { result.now ≡ into_link self.now l }
     {
-        &self.intos[usize::from(l) - 1]
+        &self.by_link[usize::from(l) - 1].intos
     }
 
     /// The junction that serves the link.
@@ -147,7 +158,7 @@ impl Net {
         requires { (1 ≤ l) × (l ≤ length self.now.links) }
         ensures { result ≡ junction_of_link self.now l }
     {
-        self.places[usize::from(l) - 1]
+        self.by_link[usize::from(l) - 1].junction
     }
 
     /// The fed links, in ascending order.
@@ -162,7 +173,7 @@ impl Net {
         requires { (1 ≤ l) × (l ≤ length self.now.links) }
         ensures { result ≡ position (λ f. f == l) (fed self.now) }
     {
-        self.fed_places[usize::from(l) - 1]
+        self.by_link[usize::from(l) - 1].fed_place
     }
 
     /// The movements of the junction, in ascending order.
@@ -170,7 +181,7 @@ impl Net {
         requires { (1 ≤ j) × (j ≤ length self.now.junctions) }
         ensures { result.now ≡ own self.now (junction_at self.now j) }
     {
-        &self.owns[usize::from(j) - 1]
+        &self.by_junction[usize::from(j) - 1].own
     }
 
     /// The links that the movements of the junction go to, in ascending order.
@@ -178,7 +189,7 @@ impl Net {
         requires { (1 ≤ j) × (j ≤ length self.now.junctions) }
         ensures { result.now ≡ targets self.now (junction_at self.now j) }
     {
-        &self.targets[usize::from(j) - 1]
+        &self.by_junction[usize::from(j) - 1].targets
     }
 
     /// The movements out of these links, in ascending order.
@@ -186,6 +197,6 @@ impl Net {
         requires { (1 ≤ j) × (j ≤ length self.now.junctions) }
         ensures { result.now ≡ next self.now (junction_at self.now j) }
     {
-        &self.nexts[usize::from(j) - 1]
+        &self.by_junction[usize::from(j) - 1].next
     }
 }

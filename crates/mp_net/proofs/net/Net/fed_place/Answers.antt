@@ -1,19 +1,18 @@
 use Rattle.std.proofs.Common.{◌≡◌, ap, arith, ◌∙◌, length, ◌-◌, get_or}
 use Rattle.mp_model.specs.Network.{Network}
-use Rattle.mp_net.specs.Tables.{fed_place}
-use Rattle.mp_net.proofs.Entries.{value_by_number, values_count}
+use Rattle.mp_net.specs.Rows.{fed_place}
 use Rattle.mp_net.proofs.net.Net.fed_place.Goals as goal
 
 pub index-requires : goal.index-requires
 index-requires c =
-    let size = values_count _ _ _ c.self.invariant.fed_places_are in
-    let links = ap (λ (net : Network). length net.links) c.self.view_is in
+    let count = c.self.invariant.by_link.count in
+    let size = ap (λ (net : Network). length net.links) c.self.view_is in
     omega arith
 
 pub returns : goal.returns
 returns c =
     let i : c.from.result ≡ c.args.l = c.from.ensures in
-    let links = ap (λ (net : Network). length net.links) c.self.view_is in
-    c.index.ensures ∙ ap (λ n. get_or c.self.inside.fed_places.items (n - 1) c.index.result.now) i
-    ∙ value_by_number _ _ _ c.self.invariant.fed_places_are c.args.l (omega arith) (omega arith) c.index.result.now
+    let size = ap (λ (net : Network). length net.links) c.self.view_is in
+    ap (λ row. row.fed_place) (c.index.ensures ∙ ap (λ n. get_or c.self.inside.by_link.items (n - 1) c.index.result.now) i)
+    ∙ (c.self.invariant.by_link.each c.args.l (omega arith) (omega arith) c.index.result.now).fed_place_is
     ∙ ap (λ net. fed_place net c.args.l) c.self.view_is
