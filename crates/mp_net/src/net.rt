@@ -6,9 +6,10 @@ ghost use Rattle.mp_net.specs.Parts.{network_of, link_of, movement_of, junction_
 
 use crate::tables::{JunctionRow, LinkRow, fed, junction_rows, link_rows};
 use crate::{
-    JunctionNo, JunctionPart, LinkNo, LinkPart, MovementNo, MovementPart, NetParts, StageNo,
+    JunctionNo, JunctionPart, LinkNo, LinkPart, MovementNo, MovementPart, NetParts, NoMemory,
+    StageNo,
 };
-use std::alloc::{AllocError, Global};
+use std::alloc::Global;
 use std::marker::Model;
 
 /// A network that meets the rules. Callers see it as lists numbered from 1.
@@ -33,7 +34,7 @@ impl Model for Net {
 
 impl Net {
     /// The network of these parts, with its tables.
-    pub(crate) fn with_tables(alloc: Global, parts: NetParts) -> Result<Net, AllocError>
+    pub(crate) fn with_tables(alloc: Global, parts: NetParts) -> Result<Net, NoMemory>
         requires { IsAcceptable (network_of parts) }
         ensures { IfOk result (λ net. net ≡ network_of parts) }
     {
