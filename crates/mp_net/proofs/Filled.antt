@@ -1,10 +1,9 @@
 -- Tables that a loop fills, and the search for the junction of a movement.
-use Rattle.std.proofs.Common.{◌≡◌, ◌≤◌, ◌<◌, ℕ, ◌+◌, ◌-◌, List, [], ◌∷◌, ◌++◌, length, map, get_or, zero, suc, arith, sym, ◌∙◌, ap, subst, refl, true, false, drop, length-append, ◌⊎◌, inl, inr, ◌||◌, Vec, Global}
-use Rattle.std.specs.List.{list_any}
+use Rattle.std.proofs.Common.{◌≡◌, ◌≤◌, ◌<◌, ℕ, ◌+◌, ◌-◌, List, [], ◌∷◌, ◌++◌, length, map, get_or, zero, suc, arith, sym, ◌∙◌, ap, subst, refl, true, false, drop, length-append, ◌⊎◌, inl, inr}
 use Rattle.std.proofs.Math.Nat.{eq-or-lt_of_le}
 use Rattle.std.proofs.Math.ListN.{get_or-append}
 use Rattle.std.proofs.lemmas.List.{length-map, get_or_push, drop_more}
-use Rattle.mp_model.specs.Network.{has, stands_in, first_holder}
+use Rattle.mp_model.specs.Network.{stands_in, first_holder}
 use Rattle.mp_net.specs.Parts.{junction_of}
 use Rattle.mp_net.specs.Rows.{IsTable}
 use Rattle.mp_net.specs.declared.parts.JunctionPart.{JunctionPart}
@@ -39,11 +38,6 @@ FilledTo-end IsRow i of entries rows filled last = record {
 }
 
 pub ruleset filled = (FilledTo-start, FilledTo-more, FilledTo-end)
-
--- the stages of a part hold a movement where those of the junction do
-pub some_stage : (k : ℕ) (stages : List (Vec ℕ Global)) → list_any (λ stage. has stage.items k) stages ≡ list_any (λ stage. has stage k) (map (λ stage. stage.items) stages)
-some_stage k [] = refl
-some_stage k (stage ∷ stages) = ap (λ b. has stage.items k || b) (some_stage k stages)
 
 -- no junction below number j holds the movement
 pub record HeldFrom (js : List JunctionPart) (k j : ℕ) : Type 0 where

@@ -1,15 +1,8 @@
 -- What the rows of neighbours hold.
 use Rattle.std.specs.Prelude.{◌≡◌, ◌==◌, ◌≤◌, ◌-◌, ℕ, List, Option, length, position, slice_index_or}
 use Rattle.mp_model.specs.Network.{Network, Junction, fed, out_of, into_link, junction_of_link, own, targets, next}
-use Rattle.mp_net.specs.declared.parts.NetParts.{NetParts}
 use Rattle.mp_net.specs.declared.tables.LinkRow.{LinkRow}
 use Rattle.mp_net.specs.declared.tables.JunctionRow.{JunctionRow}
-
--- Parts have few entries where they have no more links, movements and junctions than a network may have.
-pub record HasFew (parts : NetParts) : Type 0 where
-  pub links : length parts.links.items ≤ 128
-  pub movements : length parts.movements.items ≤ 512
-  pub junctions : length parts.junctions.items ≤ 64
 
 -- This is the place of link l among the fed links, from 0, or none where it is not fed.
 abbrev pub fed_place : Network → ℕ → Option ℕ

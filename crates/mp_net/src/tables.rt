@@ -3,8 +3,10 @@ ghost use Rattle.std.specs.Prelude.{◌≡◌, ◌==◌, ◌≤◌, filter, leng
 ghost use Rattle.std.specs.List.{list_any};
 ghost use Rattle.mp_model.specs.Network.{link_at, link_numbers, movement_numbers, from_of, to_of, goes_to, has, is_fed, out_of, into_link, stands_in, own, fed, junction_at, junction_of_movement, first_junction};
 ghost use Rattle.mp_net.specs.Parts.{network_of, junction_of};
-ghost use Rattle.mp_net.specs.Rows.{HasFew, IsTable, IsLinkRow, IsJunctionRow};
+ghost use Rattle.mp_net.specs.Small.{IsSmall};
+ghost use Rattle.mp_net.specs.Rows.{IsTable, IsLinkRow, IsJunctionRow};
 
+use crate::rules::stages::any_has;
 use crate::{JunctionNo, JunctionPart, LinkNo, MovementNo, NetParts};
 use std::alloc::{AllocError, Global};
 
@@ -73,12 +75,12 @@ fn is_fed(parts: &NetParts, l: LinkNo) -> bool
 fn stands_in(junction: &JunctionPart, k: MovementNo) -> bool
     ensures { result ≡ stands_in (junction_of junction.now) k }
 {
-    junction.stages.iter().any(|stage| stage.contains(&k))
+    any_has(&junction.stages, k)
 }
 
 /// The fed links.
 pub fn fed(alloc: Global, parts: &NetParts) -> Result<Vec<LinkNo>, AllocError>
-    requires { HasFew parts.now }
+    requires { IsSmall parts.now }
     ensures { IfOk result (λ links. links.items ≡ fed (network_of parts.now)) }
 {
     let end = parts.links.len() as LinkNo + 1;
@@ -87,7 +89,7 @@ pub fn fed(alloc: Global, parts: &NetParts) -> Result<Vec<LinkNo>, AllocError>
 
 /// The movements out of the link.
 fn out_of(alloc: Global, parts: &NetParts, l: LinkNo) -> Result<Vec<MovementNo>, AllocError>
-    requires { HasFew parts.now }
+    requires { IsSmall parts.now }
     ensures { IfOk result (λ movements. movements.items ≡ out_of (network_of parts.now) l) }
 {
     let end = parts.movements.len() as MovementNo + 1;
@@ -96,7 +98,7 @@ fn out_of(alloc: Global, parts: &NetParts, l: LinkNo) -> Result<Vec<MovementNo>,
 
 /// The movements into the link.
 fn into_link(alloc: Global, parts: &NetParts, l: LinkNo) -> Result<Vec<MovementNo>, AllocError>
-    requires { HasFew parts.now }
+    requires { IsSmall parts.now }
     ensures { IfOk result (λ movements. movements.items ≡ into_link (network_of parts.now) l) }
 {
     let end = parts.movements.len() as MovementNo + 1;
@@ -109,7 +111,7 @@ fn own(
     parts: &NetParts,
     junction: &JunctionPart,
 ) -> Result<Vec<MovementNo>, AllocError>
-    requires { HasFew parts.now }
+    requires { IsSmall parts.now }
     ensures { IfOk result (λ movements. movements.items ≡ own (network_of parts.now) (junction_of junction.now)) }
 {
     let end = parts.movements.len() as MovementNo + 1;
@@ -128,7 +130,7 @@ fn targets(
     parts: &NetParts,
     movements: &[MovementNo],
 ) -> Result<Vec<LinkNo>, AllocError>
-    requires { HasFew parts.now }
+    requires { IsSmall parts.now }
     ensures { IfOk result (λ links. links.items ≡ filter (λ l. list_any (λ k. goes_to (to_of (network_of parts.now) k) l) movements.now) (link_numbers (network_of parts.now))) }
 {
     let end = parts.links.len() as LinkNo + 1;
@@ -139,7 +141,7 @@ fn targets(
 
 /// The movements out of some of these links.
 fn next(alloc: Global, parts: &NetParts, links: &[LinkNo]) -> Result<Vec<MovementNo>, AllocError>
-    requires { HasFew parts.now }
+    requires { IsSmall parts.now }
     ensures { IfOk result (λ movements. movements.items ≡ filter (λ k. has links.now (from_of (network_of parts.now) k)) (movement_numbers (network_of parts.now))) }
 {
     let end = parts.movements.len() as MovementNo + 1;
@@ -151,7 +153,7 @@ fn next(alloc: Global, parts: &NetParts, links: &[LinkNo]) -> Result<Vec<Movemen
 /// The first junction in whose stages the movement stands, or 0 where there is none.
 #[tactic(auto, using(crate::proofs::Filled::holders))]
 fn junction_of_movement(parts: &NetParts, k: MovementNo) -> JunctionNo
-    requires { HasFew parts.now }
+    requires { IsSmall parts.now }
     ensures { result ≡ junction_of_movement (network_of parts.now) k }
 {
     let end = parts.junctions.len() as JunctionNo + 1;
@@ -165,7 +167,7 @@ fn junction_of_movement(parts: &NetParts, k: MovementNo) -> JunctionNo
 
 /// The junction of the first of these movements, or 0 of none.
 fn first_junction(parts: &NetParts, movements: &[MovementNo]) -> JunctionNo
-    requires { HasFew parts.now }
+    requires { IsSmall parts.now }
     ensures { result ≡ first_junction (network_of parts.now) movements.now }
 {
     match movements {
@@ -186,7 +188,7 @@ fn link_row(
     links: &[LinkNo],
     l: LinkNo,
 ) -> Result<LinkRow, AllocError>
-    requires few { HasFew parts.now }
+    requires few { IsSmall parts.now }
     requires fed { links.now ≡ fed (network_of parts.now) }
     ensures { IfOk result (IsLinkRow (network_of parts.now) l) }
 {
@@ -205,7 +207,7 @@ fn junction_row(
     parts: &NetParts,
     junction: &JunctionPart,
 ) -> Result<JunctionRow, AllocError>
-    requires { HasFew parts.now }
+    requires { IsSmall parts.now }
     ensures { IfOk result (IsJunctionRow (network_of parts.now) (junction_of junction.now)) }
 {
     let own = own(alloc, parts, junction)?;
@@ -221,7 +223,7 @@ pub fn link_rows(
     parts: &NetParts,
     links: &[LinkNo],
 ) -> Result<Vec<LinkRow>, AllocError>
-    requires few { HasFew parts.now }
+    requires few { IsSmall parts.now }
     requires fed { links.now ≡ fed (network_of parts.now) }
     ensures { IfOk result (λ rows. IsTable (IsLinkRow (network_of parts.now)) (length (network_of parts.now).links) rows.items) }
 {
@@ -236,7 +238,7 @@ pub fn link_rows(
 /// One row per junction.
 #[tactic(auto, using(crate::proofs::Filled::filled))]
 pub fn junction_rows(alloc: Global, parts: &NetParts) -> Result<Vec<JunctionRow>, AllocError>
-    requires { HasFew parts.now }
+    requires { IsSmall parts.now }
     ensures { IfOk result (λ rows. IsTable (λ j. IsJunctionRow (network_of parts.now) (junction_at (network_of parts.now) j)) (length (network_of parts.now).junctions) rows.items) }
 {
     let end = parts.junctions.len() as JunctionNo + 1;

@@ -11,7 +11,7 @@ use crate::rules::repeats::movement_is_there;
 use crate::rules::spot::first_spot;
 use crate::{LinkNo, MovementNo, NetParts, Spot};
 
-fn any_has(stages: &[Vec<MovementNo>], k: MovementNo) -> bool
+pub fn any_has(stages: &[Vec<MovementNo>], k: MovementNo) -> bool
     ensures { result ≡ list_any (λ stage. has stage k) (map (λ stage. stage.items) stages.now) }
 {
     for stage in stages {
