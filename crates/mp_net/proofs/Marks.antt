@@ -15,7 +15,7 @@ use Rattle.mp_net.proofs.Ways.{Agree, leads_on-agree, find_agree}
 pub from_is_there : (net : Network) (k : ℕ) → HasItsLinks net → 1 ≤ k → k < length net.movements + 1 → (1 ≤ from_of net k) × (from_of net k ≤ length net.links)
 from_is_there net k there low high =
     let h = in_range 1 (length net.links) (from_of net k)
-        (all_each (λ i. has (link_numbers net) (from_of net i) ≡ true) (movement_numbers net) k there.from (of_range 1 (length net.movements) k low (omega arith))) in
+    (all_each (λ i. has (link_numbers net) (from_of net i) ≡ true) (movement_numbers net) k there.from (of_range 1 (length net.movements) k low (omega arith))) in
     (h.0, omega (arith, h.1))
 
 -- links are marked where a movement below k leads on from them

@@ -1,7 +1,9 @@
 //! A network that meets the rules, with its tables of neighbours.
-ghost use Rattle.std.specs.Prelude.{◌≡◌, ◌==◌, ◌≤◌, ℕ, length, position, IfOk};
+ghost use Rattle.std.specs.Prelude.{◌≡◌, ◌==◌, ◌≤◌, ℕ, length, position, None, IfOk};
 ghost use Rattle.mp_model.specs.Network.{link_at, movement_at, junction_at, stage_at, share_of, flow_of, from_of, to_of, out_of, into_link, junction_of_link, fed, own, targets, next};
 ghost use Rattle.mp_model.specs.NetworkRules.{IsAcceptable};
+ghost use Rattle.mp_net.specs.Spots.{first_broken};
+ghost use Rattle.mp_net.specs.Rules.{part_rules};
 ghost use Rattle.mp_net.specs.Parts.{network_of, link_of, movement_of, junction_of};
 
 use crate::tables::{JunctionRow, LinkRow, fed, junction_rows, link_rows};
@@ -35,7 +37,8 @@ impl Model for Net {
 impl Net {
     /// The network of these parts, with its tables.
     pub(crate) fn with_tables(alloc: Global, parts: NetParts) -> Result<Net, NoMemory>
-        requires { IsAcceptable (network_of parts) }
+        requires acceptable { IsAcceptable (network_of parts) }
+        requires sound { first_broken (part_rules (network_of parts)) ≡ None }
         ensures { IfOk result (λ net. net ≡ network_of parts) }
     {
         let fed = fed(alloc, &parts)?;
@@ -53,6 +56,7 @@ impl Net {
     pub fn shares(&self) -> u32
         ensures value { result ≡ self.now.shares }
         ensures acceptable { IsAcceptable self.now }
+        ensures sound { first_broken (part_rules self.now) ≡ None }
     {
         self.parts.shares
     }
