@@ -45,9 +45,9 @@ pub no_unknown : (net : Network) → HasItsLinks net → unknown_link net ≡ No
 no_unknown net there =
     spot_none false None (find (names_unknown_link net) (movement_numbers net)) None refl refl
     (nothing_found (names_unknown_link net) (movement_numbers net) (λ k h.
-      let from = all_each (λ i. has (link_numbers net) (from_of net i) ≡ true) (movement_numbers net) k there.from h in
-      let to = all_each (λ i. IfSome (to_of net i) (λ l. has (link_numbers net) l ≡ true)) (movement_numbers net) k there.to h in
-      rw (of_link net (from_of net k) from, of_target net (to_of net k) to)))
+    let from = all_each (λ i. has (link_numbers net) (from_of net i) ≡ true) (movement_numbers net) k there.from h in
+    let to = all_each (λ i. IfSome (to_of net i) (λ l. has (link_numbers net) l ≡ true)) (movement_numbers net) k there.to h in
+    rw (of_link net (from_of net k) from, of_target net (to_of net k) to)))
     refl
 
 -- ---- shares
@@ -63,9 +63,9 @@ right_sum false m n some h = absurd (false≢true some)
 pub its_split : (net : Network) → bad_shares net ≡ None → no_movement_out net ≡ None → IsSplit net
 its_split net none some =
     each_all (λ l. sum_by (share_of net) (out_of net l) ≡ net.shares) (link_numbers net) (λ l h.
-      right_sum (has_movement net l) (sum_by (share_of net) (out_of net l)) net.shares
-      (not_false _ (none_passes (λ m. not (has_movement net m)) (link_numbers net) l (no_spot false (find (λ m. not (has_movement net m)) (link_numbers net)) None None some).1 h))
-      (none_passes (has_bad_shares net) (link_numbers net) l (no_spot false (find (has_bad_shares net) (link_numbers net)) None None none).1 h))
+    right_sum (has_movement net l) (sum_by (share_of net) (out_of net l)) net.shares
+    (not_false _ (none_passes (λ m. not (has_movement net m)) (link_numbers net) l (no_spot false (find (λ m. not (has_movement net m)) (link_numbers net)) None None some).1 h))
+    (none_passes (has_bad_shares net) (link_numbers net) l (no_spot false (find (has_bad_shares net) (link_numbers net)) None None none).1 h))
 
 wrong_sum : (b : Bool) (m n : ℕ) → m ≡ n → (b && not (m == n)) ≡ false
 wrong_sum true m n e = let t : (m == n) ≡ true = grind (arith, nat_tests) in rw t
@@ -75,7 +75,7 @@ pub no_bad_shares : (net : Network) → IsSplit net → bad_shares net ≡ None
 no_bad_shares net split =
     spot_none false (find (has_bad_shares net) (link_numbers net)) None None refl
     (nothing_found (has_bad_shares net) (link_numbers net) (λ l h.
-      wrong_sum (has_movement net l) (sum_by (share_of net) (out_of net l)) net.shares (all_each (λ m. sum_by (share_of net) (out_of net m) ≡ net.shares) (link_numbers net) l split h)))
+    wrong_sum (has_movement net l) (sum_by (share_of net) (out_of net l)) net.shares (all_each (λ m. sum_by (share_of net) (out_of net m) ≡ net.shares) (link_numbers net) l split h)))
     refl refl
 
 -- a sum that is not 0 has a term
@@ -91,9 +91,9 @@ pub no_lone_link : (net : Network) → 1 ≤ net.shares → IsSplit net → no_m
 no_lone_link net low split =
     spot_none false (find (λ m. not (has_movement net m)) (link_numbers net)) None None refl
     (nothing_found (λ m. not (has_movement net m)) (link_numbers net) (λ l h.
-      let sum = all_each (λ m. sum_by (share_of net) (out_of net m) ≡ net.shares) (link_numbers net) l split h in
-      let some : has_movement net l ≡ true = some_term (share_of net) (λ k. from_of net k == l) (movement_numbers net) (omega (arith, sum)) in
-      rw some))
+    let sum = all_each (λ m. sum_by (share_of net) (out_of net m) ≡ net.shares) (link_numbers net) l split h in
+    let some : has_movement net l ≡ true = some_term (share_of net) (λ k. from_of net k == l) (movement_numbers net) (omega (arith, sum)) in
+    rw some))
     refl refl
 
 -- ---- fed links
@@ -123,13 +123,13 @@ no_unfed net some = let e : list_any (λ l. is_fed (link_at net l)) (link_number
 pub its_ways : (net : Network) → no_way_out net ≡ None → AllByRecursion (HasWayOut net) (link_numbers net)
 its_ways net none =
     each_all (HasWayOut net) (link_numbers net) (λ l h.
-      chain_from_way net (length net.links) l
-      (not_false _ (none_passes (λ m. not (has_way_out net m)) (link_numbers net) l (no_spot false (find (λ m. not (has_way_out net m)) (link_numbers net)) None None none).1 h)))
+    chain_from_way net (length net.links) l
+    (not_false _ (none_passes (λ m. not (has_way_out net m)) (link_numbers net) l (no_spot false (find (λ m. not (has_way_out net m)) (link_numbers net)) None None none).1 h)))
 
 pub no_dead_end : (net : Network) → HasItsLinks net → AllByRecursion (HasWayOut net) (link_numbers net) → no_way_out net ≡ None
 no_dead_end net there ways =
     spot_none false (find (λ m. not (has_way_out net m)) (link_numbers net)) None None refl
     (nothing_found (λ m. not (has_way_out net m)) (link_numbers net) (λ l h.
-      let way : has_way_out net l ≡ true = way_from_chain net l there h (all_each (HasWayOut net) (link_numbers net) l ways h) in
-      rw way))
+    let way : has_way_out net l ≡ true = way_from_chain net l there h (all_each (HasWayOut net) (link_numbers net) l ways h) in
+    rw way))
     refl refl

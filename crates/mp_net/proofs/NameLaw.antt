@@ -35,22 +35,22 @@ module _ {X : Type 0} (name : X → List ℕ) (xs : List X) (d : X) where
 
   pub names_differ : ((k : ℕ) → has (range_with_len 1 (length xs)) k ≡ true → is_taken k ≡ false) → IsDistinct bytes_eq (map name xs)
   names_differ free = distinct_from_places bytes_eq (map name xs) [] (λ i j below within.
-    let high : j < length xs = omega (arith, within, length-map xs name) in
-    let at : (n : ℕ) → n < length xs → get_or (map name xs) n [] ≡ name (get_or xs n d) = λ n h. get_or-map name xs n d [] h in
-    let first : i + 1 - 1 ≡ i = omega arith in
-    let second : j + 1 - 1 ≡ j = omega arith in
-    let none = free (j + 1) (of_range 1 (length xs) (j + 1) (omega arith) (omega (arith, high))) in
-    let apart = none_asked (λ i'. bytes_eq (name_at i') (name_at (j + 1))) (range_with_len 1 (j + 1 - 1)) (i + 1) none (of_range 1 (j + 1 - 1) (i + 1) (omega arith) (omega (arith, below))) in
-    rw (at i (omega (arith, below, high)), at j high) (rw (first, second) at apart))
+      let high : j < length xs = omega (arith, within, length-map xs name) in
+      let at : (n : ℕ) → n < length xs → get_or (map name xs) n [] ≡ name (get_or xs n d) = λ n h. get_or-map name xs n d [] h in
+      let first : i + 1 - 1 ≡ i = omega arith in
+      let second : j + 1 - 1 ≡ j = omega arith in
+      let none = free (j + 1) (of_range 1 (length xs) (j + 1) (omega arith) (omega (arith, high))) in
+      let apart = none_asked (λ i'. bytes_eq (name_at i') (name_at (j + 1))) (range_with_len 1 (j + 1 - 1)) (i + 1) none (of_range 1 (j + 1 - 1) (i + 1) (omega arith) (omega (arith, below))) in
+      rw (at i (omega (arith, below, high)), at j high) (rw (first, second) at apart))
 
   pub names_free : IsDistinct bytes_eq (map name xs) → (k : ℕ) → has (range_with_len 1 (length xs)) k ≡ true → is_taken k ≡ false
   names_free distinct k h =
       let r = in_range 1 (length xs) k h in
       nothing_asked (λ i. bytes_eq (name_at i) (name_at k)) (range_with_len 1 (k - 1)) (λ i g.
-        let s = in_range 1 (k - 1) i g in
-        let at : (n : ℕ) → n < length xs → get_or (map name xs) n [] ≡ name (get_or xs n d) = λ n b. get_or-map name xs n d [] b in
-        let apart = places_from_distinct bytes_eq (map name xs) [] (i - 1) (k - 1) distinct (omega (arith, s.0, s.1, r.0)) (omega (arith, length-map xs name, r.0, r.1)) in
-        rw (at (i - 1) (omega (arith, s.0, s.1, r.1)), at (k - 1) (omega (arith, r.0, r.1))) at apart)
+      let s = in_range 1 (k - 1) i g in
+      let at : (n : ℕ) → n < length xs → get_or (map name xs) n [] ≡ name (get_or xs n d) = λ n b. get_or-map name xs n d [] b in
+      let apart = places_from_distinct bytes_eq (map name xs) [] (i - 1) (k - 1) distinct (omega (arith, s.0, s.1, r.0)) (omega (arith, length-map xs name, r.0, r.1)) in
+      rw (at (i - 1) (omega (arith, s.0, s.1, r.1)), at (k - 1) (omega (arith, r.0, r.1))) at apart)
 
 -- ---- what repeats
 
@@ -58,7 +58,7 @@ module _ (net : Network) where
   pub link_names_differ : repeated net ≡ None → IsDistinct bytes_eq (map (λ (link : Link). link.name) net.links)
   link_names_differ none =
       names_differ (λ (link : Link). link.name) net.links no_link (none_passes_all
-        (no_spot false (find (link_is_repeated net) (link_numbers net)) (find (movement_is_repeated net) (movement_numbers net)) (find (junction_is_repeated net) (junction_numbers net)) none).1)
+      (no_spot false (find (link_is_repeated net) (link_numbers net)) (find (movement_is_repeated net) (movement_numbers net)) (find (junction_is_repeated net) (junction_numbers net)) none).1)
     where
       none_passes_all : find (link_is_repeated net) (link_numbers net) ≡ None → (k : ℕ) → has (link_numbers net) k ≡ true → link_is_repeated net k ≡ false
       none_passes_all e k h = none_passes (link_is_repeated net) (link_numbers net) k e h
@@ -67,12 +67,12 @@ module _ (net : Network) where
   movement_names_differ none =
       names_differ (λ (movement : Movement). movement.name) net.movements no_movement
       (λ k h. none_passes (movement_is_repeated net) (movement_numbers net) k
-        (no_spot false (find (link_is_repeated net) (link_numbers net)) (find (movement_is_repeated net) (movement_numbers net)) (find (junction_is_repeated net) (junction_numbers net)) none).2 h)
+      (no_spot false (find (link_is_repeated net) (link_numbers net)) (find (movement_is_repeated net) (movement_numbers net)) (find (junction_is_repeated net) (junction_numbers net)) none).2 h)
 
   -- the names and the stages of junctions repeat nothing
   junction_free : repeated net ≡ None → (j : ℕ) → has (junction_numbers net) j ≡ true → (junction_name_is_repeated net j ≡ false) × (list_any (repeats_movement net) (junction_at net j).stages ≡ false)
   junction_free none j h = or_none (junction_name_is_repeated net j) (list_any (repeats_movement net) (junction_at net j).stages) (none_passes (junction_is_repeated net) (junction_numbers net) j
-    (no_spot false (find (link_is_repeated net) (link_numbers net)) (find (movement_is_repeated net) (movement_numbers net)) (find (junction_is_repeated net) (junction_numbers net)) none).3 h)
+      (no_spot false (find (link_is_repeated net) (link_numbers net)) (find (movement_is_repeated net) (movement_numbers net)) (find (junction_is_repeated net) (junction_numbers net)) none).3 h)
 
   pub junction_names_differ : repeated net ≡ None → IsDistinct bytes_eq (map (λ (j : Junction). j.name) net.junctions)
   junction_names_differ none = names_differ (λ (j : Junction). j.name) net.junctions no_junction (λ j h. (junction_free none j h).0)

@@ -49,13 +49,13 @@ module _ (net : Network) where
   link_in : bad_number net ≡ None → (l : ℕ) → has (link_numbers net) l ≡ true → ((link_at net l).burst ≤ 10000) × ((link_at net l).rate ≤ 1000 * net.per)
   link_in none l h =
       let p = or_none (outside 0 10000 (link_at net l).burst) (outside 0 (1000 * net.per) (link_at net l).rate)
-          (none_passes (link_has_bad_number net) (link_numbers net) l (no_spot top link_found movement_found junction_found none).1 h) in
+      (none_passes (link_has_bad_number net) (link_numbers net) l (no_spot top link_found movement_found junction_found none).1 h) in
       ((within 0 10000 (link_at net l).burst p.0).1, (within 0 (1000 * net.per) (link_at net l).rate p.1).1)
 
   movement_in : bad_number net ≡ None → (k : ℕ) → has (movement_numbers net) k ≡ true → (1 ≤ share_of net k) × (share_of net k ≤ net.shares) × (1 ≤ flow_of net k) × (flow_of net k ≤ 1000)
   movement_in none k h =
       let p = or_none (outside 1 net.shares (share_of net k)) (outside 1 1000 (flow_of net k))
-          (none_passes (movement_has_bad_number net) (movement_numbers net) k (no_spot top link_found movement_found junction_found none).2 h) in
+      (none_passes (movement_has_bad_number net) (movement_numbers net) k (no_spot top link_found movement_found junction_found none).2 h) in
       let a = within 1 net.shares (share_of net k) p.0 in
       let b = within 1 1000 (flow_of net k) p.1 in
       (a.0, a.1, b.0, b.1)
@@ -102,14 +102,14 @@ neither a b x y = rw (x, y)
 pub no_bad_number : (net : Network) → HasNumbers net → bad_number net ≡ None
 no_bad_number net h =
     let top : top_has_bad_number net ≡ false =
-        neither _ _ (neither _ _ (neither _ _ (neither _ _ (inside 1 1000 net.shares h.shares.0 h.shares.1) (inside 1 3600 net.per h.per.0 h.per.1)) (inside 1 128 (length net.links) h.links.0 h.links.1)) (inside 1 512 (length net.movements) h.movements.0 h.movements.1))
-        (inside 1 64 (length net.junctions) h.junctions.0 h.junctions.1) in
+    neither _ _ (neither _ _ (neither _ _ (neither _ _ (inside 1 1000 net.shares h.shares.0 h.shares.1) (inside 1 3600 net.per h.per.0 h.per.1)) (inside 1 128 (length net.links) h.links.0 h.links.1)) (inside 1 512 (length net.movements) h.movements.0 h.movements.1))
+    (inside 1 64 (length net.junctions) h.junctions.0 h.junctions.1) in
     let links : find (link_has_bad_number net) (link_numbers net) ≡ None = nothing_found (link_has_bad_number net) (link_numbers net) (λ l i.
-      neither _ _ (inside_top 0 10000 (link_at net l).burst (entry_at (λ (link : Link). link.burst ≤ 10000) net.links no_link l h.bursts i) refl)
-      (inside_top 0 (1000 * net.per) (link_at net l).rate (entry_at (λ (link : Link). link.rate ≤ 1000 * net.per) net.links no_link l h.rates i) refl)) in
+    neither _ _ (inside_top 0 10000 (link_at net l).burst (entry_at (λ (link : Link). link.burst ≤ 10000) net.links no_link l h.bursts i) refl)
+    (inside_top 0 (1000 * net.per) (link_at net l).rate (entry_at (λ (link : Link). link.rate ≤ 1000 * net.per) net.links no_link l h.rates i) refl)) in
     let movements : find (movement_has_bad_number net) (movement_numbers net) ≡ None = nothing_found (movement_has_bad_number net) (movement_numbers net) (λ k i.
-      neither _ _ (inside 1 net.shares (share_of net k) (all_each (λ m. 1 ≤ share_of net m) (movement_numbers net) k h.share i) (all_each (λ m. share_of net m ≤ net.shares) (movement_numbers net) k h.few_shares i))
-      (inside 1 1000 (flow_of net k) (all_each (λ m. 1 ≤ flow_of net m) (movement_numbers net) k h.flow i) (entry_at (λ (movement : Movement). movement.flow ≤ 1000) net.movements no_movement k h.flows i))) in
+    neither _ _ (inside 1 net.shares (share_of net k) (all_each (λ m. 1 ≤ share_of net m) (movement_numbers net) k h.share i) (all_each (λ m. share_of net m ≤ net.shares) (movement_numbers net) k h.few_shares i))
+    (inside 1 1000 (flow_of net k) (all_each (λ m. 1 ≤ flow_of net m) (movement_numbers net) k h.flow i) (entry_at (λ (movement : Movement). movement.flow ≤ 1000) net.movements no_movement k h.flows i))) in
     let junctions : find (junction_has_bad_number net) (junction_numbers net) ≡ None = nothing_found (junction_has_bad_number net) (junction_numbers net) (λ j i.
-      inside 1 16 (length (junction_at net j).stages) (entry_at (λ (junction : Junction). 1 ≤ length junction.stages) net.junctions no_junction j h.some_stage i) (entry_at (λ (junction : Junction). length junction.stages ≤ 16) net.junctions no_junction j h.stages i)) in
+    inside 1 16 (length (junction_at net j).stages) (entry_at (λ (junction : Junction). 1 ≤ length junction.stages) net.junctions no_junction j h.some_stage i) (entry_at (λ (junction : Junction). length junction.stages ≤ 16) net.junctions no_junction j h.stages i)) in
     spot_none (top_has_bad_number net) (find (link_has_bad_number net) (link_numbers net)) (find (movement_has_bad_number net) (movement_numbers net)) (find (junction_has_bad_number net) (junction_numbers net)) top links movements junctions

@@ -64,7 +64,7 @@ module _ (net : Network) where
   good : bad_stage net ≡ None → (j : ℕ) → has (junction_numbers net) j ≡ true → IsGood j
   good none j h =
       let p = or_none (names_unknown_movement net (junction j) || list_any (is_served_twice net j) (link_numbers net)) (nat_lt 24 (length (own net (junction j))))
-          (none_passes (has_bad_stage net) (junction_numbers net) j (no_spot false None None (find (has_bad_stage net) (junction_numbers net)) none).3 h) in
+      (none_passes (has_bad_stage net) (junction_numbers net) j (no_spot false None None (find (has_bad_stage net) (junction_numbers net)) none).3 h) in
       let q = or_none (names_unknown_movement net (junction j)) (list_any (is_served_twice net j) (link_numbers net)) p.0 in
       record { known = q.0; apart = q.1; few = p.1 }
 
@@ -79,9 +79,9 @@ module _ (net : Network) where
 
   pub its_stages : bad_stage net ≡ None → ((j : ℕ) → has (junction_numbers net) j ≡ true → list_any (repeats_movement net) (junction_at net j).stages ≡ false) → AllByRecursion (HasStages net) net.junctions
   its_stages none once = entries_from_numbers (HasStages net) net.junctions no_junction (λ j h.
-    all_more (λ stage. (list_any (λ k. not (movement_is_there net k)) stage ≡ false) × (repeats_movement net stage ≡ false)) (λ stage. IsDistinct ◌==◌ stage × AllByRecursion (λ k. has (movement_numbers net) k ≡ true) stage) (junction j).stages
-    (λ stage p. let there = stage_there stage p.0 in (distinct_stage net stage p.1 there, all_more (λ k. movement_is_there net k ≡ true) (λ k. has (movement_numbers net) k ≡ true) stage (λ k e. is_there net k e) there))
-    (all_both (λ stage. list_any (λ k. not (movement_is_there net k)) stage ≡ false) (λ stage. repeats_movement net stage ≡ false) (junction j).stages
+      all_more (λ stage. (list_any (λ k. not (movement_is_there net k)) stage ≡ false) × (repeats_movement net stage ≡ false)) (λ stage. IsDistinct ◌==◌ stage × AllByRecursion (λ k. has (movement_numbers net) k ≡ true) stage) (junction j).stages
+      (λ stage p. let there = stage_there stage p.0 in (distinct_stage net stage p.1 there, all_more (λ k. movement_is_there net k ≡ true) (λ k. has (movement_numbers net) k ≡ true) stage (λ k e. is_there net k e) there))
+      (all_both (λ stage. list_any (λ k. not (movement_is_there net k)) stage ≡ false) (λ stage. repeats_movement net stage ≡ false) (junction j).stages
       (none_in (list_any (λ k. not (movement_is_there net k))) (junction j).stages (good none j h).known) (none_in (repeats_movement net) (junction j).stages (once j h))))
 
   -- ---- a link is served at one junction
@@ -119,7 +119,7 @@ module _ (net : Network) where
   place : unserved net ≡ None → (k : ℕ) → has (movement_numbers net) k ≡ true → (m : ℕ) × (m < length net.junctions) × (stands_in (at m) k ≡ true)
   place none k h =
       let p = passing (λ j. stands_in (junction j) k) (junction_numbers net)
-          (not_false (list_any (λ j. stands_in (junction j) k) (junction_numbers net)) (none_passes (is_unserved net) (movement_numbers net) k (no_spot false None (find (is_unserved net) (movement_numbers net)) None none).2 h)) in
+      (not_false (list_any (λ j. stands_in (junction j) k) (junction_numbers net)) (none_passes (is_unserved net) (movement_numbers net) k (no_spot false None (find (is_unserved net) (movement_numbers net)) None none).2 h)) in
       let r = in_range 1 (length net.junctions) p.0 p.1 in
       (p.0 - 1, omega (arith, r.0, r.1), p.2)
 
@@ -144,9 +144,9 @@ module _ (net : Network) where
 
   pub its_places : bad_stage net ≡ None → unserved net ≡ None → HasItsLinks net → AllByRecursion IsPlaced (movement_numbers net)
   its_places none served links = each_all IsPlaced (movement_numbers net) (λ k h.
-    let link = all_each (λ i. has (link_numbers net) (from_of net i) ≡ true) (movement_numbers net) k links.from h in
-    let p = place served k h in
-    once_counted (λ j. stands_in j k) net.junctions no_junction p.0 p.1 p.2 (not_later none k link h))
+      let link = all_each (λ i. has (link_numbers net) (from_of net i) ≡ true) (movement_numbers net) k links.from h in
+      let p = place served k h in
+      once_counted (λ j. stands_in j k) net.junctions no_junction p.0 p.1 p.2 (not_later none k link h))
 
   same_place : bad_stage net ≡ None → unserved net ≡ None → (l k i : ℕ) → has (link_numbers net) l ≡ true → has (out_of net l) k ≡ true → has (out_of net l) i ≡ true → junction_of_movement net i ≡ junction_of_movement net k
   same_place none served l k i link outk outi =
@@ -173,5 +173,5 @@ module _ (net : Network) where
 
   pub its_junctions : bad_stage net ≡ None → unserved net ≡ None → AllByRecursion (IsTogether net) (link_numbers net)
   its_junctions none served = each_all (IsTogether net) (link_numbers net) (λ l link.
-    each_all (λ k. AllByRecursion (λ i. junction_of_movement net i ≡ junction_of_movement net k) (out_of net l)) (out_of net l)
-    (λ k outk. each_all (λ i. junction_of_movement net i ≡ junction_of_movement net k) (out_of net l) (λ i outi. same_place none served l k i link outk outi)))
+      each_all (λ k. AllByRecursion (λ i. junction_of_movement net i ≡ junction_of_movement net k) (out_of net l)) (out_of net l)
+      (λ k outk. each_all (λ i. junction_of_movement net i ≡ junction_of_movement net k) (out_of net l) (λ i outi. same_place none served l k i link outk outi)))

@@ -2,6 +2,7 @@
 #![tactic(auto)]
 
 mod check;
+mod constructor;
 mod fault;
 mod net;
 mod outlets;
@@ -10,6 +11,7 @@ mod rules;
 mod tables;
 
 pub use check::check_parts;
+pub use constructor::build;
 pub use fault::{NetFault, NetRule, NoMemory, Section, Spot};
 pub use net::Net;
 pub use outlets::way_out;
