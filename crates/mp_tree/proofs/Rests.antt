@@ -1,5 +1,5 @@
 -- What a reader of TOML leaves of a text is no longer than the text.
-use Rattle.std.proofs.Common.{◌≡◌, ℕ, zero, suc, ◌≤◌, ◌<◌, Bool, true, false, ◌&&◌, ◌==◌, List, [], ◌∷◌, ◌++◌, length, drop, take, Option, Some, None, option_map, is_some, unwrap_or, if◌then◌else◌, encode_utf8, IfSome, inl, inr, arith, length-drop}
+use Rattle.std.proofs.Common.{◌≡◌, ℕ, zero, suc, ◌≤◌, ◌<◌, Bool, true, false, ◌&&◌, ◌==◌, List, [], ◌∷◌, ◌++◌, length, drop, take, Option, Some, None, option_map, is_some, unwrap_or, if◌then◌else◌, slice_index, encode_utf8, IfSome, inl, inr, arith, length-drop}
 use Rattle.std.specs.Prelude.{option_and_then}
 use Rattle.std.proofs.lemmas.Bool.{cases_Bool}
 use Rattle.toml_parser.specs.Lexical.{Read, line_feed, comma, equals, first, skip_ws, skip_from, skip_turn, skip_lines, skip_blank, starts_newline}
@@ -132,7 +132,7 @@ quoted-leaves : (text : List ℕ) → Leaves (length text) (quoted text)
 unfolding quoted
 quoted-leaves text =
     let three = leaves_more (length (trim_newline (drop 3 text))) (length text) _ (omega (arith, trim_newline-within (drop 3 text), drop-within 3 text)) (body-leaves (first text) true (length text) (trim_newline (drop 3 text))) in
-    search (steps, three, one_line-leaves)
+    leaves_either (length text) (slice_index text 1 == first text && slice_index text 2 == first text) (body (first text) true (length text) (trim_newline (drop 3 text))) (one_line text) three (one_line-leaves text)
 
 simple_key-leaves : (text : List ℕ) → Leaves (length text) (simple_key text)
 unfolding simple_key
@@ -145,9 +145,9 @@ key_after-leaves (suc n) path text = leaves_then (length text) (simple_key text)
     let rest : length (skip_ws part.1) ≤ length text = omega (arith, skip_ws-within part.1) in
     let next : length (skip_ws (drop 1 (skip_ws part.1))) ≤ length text = omega (arith, skip_ws-within (drop 1 (skip_ws part.1)), drop-within 1 (skip_ws part.1)) in
     let more = leaves_more (length (skip_ws (drop 1 (skip_ws part.1)))) (length text) _ next (key_after-leaves n (path ++ part.0 ∷ []) (skip_ws (drop 1 (skip_ws part.1)))) in
-    search (steps, rest, more))
+    leaves_either (length text) (first (skip_ws part.1) == 46) (key_after n (path ++ part.0 ∷ []) (skip_ws (drop 1 (skip_ws part.1)))) (Some ((path, part.0), skip_ws part.1)) more (record { few = rest }))
 
-pub key-leaves : (text : List ℕ) → Leaves (length text) (key text)
+key-leaves : (text : List ℕ) → Leaves (length text) (key text)
 key-leaves text = key_after-leaves 80 [] text
 
 -- ---- values
@@ -180,7 +180,7 @@ rest_map : (n : ℕ) (f : List ℕ → List ℕ) (o : Option (List ℕ)) → ((r
 rest_map n f None short h = record { few = tt }
 rest_map n f (Some rest) short h = record { few = omega (arith, short rest, h.few) }
 
-key_equals-leaves : (text : List ℕ) → Leaves (length text) (key_equals text)
+pub key_equals-leaves : (text : List ℕ) → Leaves (length text) (key_equals text)
 unfolding key_equals
 key_equals-leaves text = leaves_then (length text) (key text) _ (key-leaves text) (λ k few. go k.0 (after_byte equals k.1) (rest_more (length k.1) (length text) _ few (after_byte-leaves equals k.1)))
   where
@@ -224,7 +224,7 @@ members-leaves val h (suc n) found text =
     (λ e few. nodes_then (length text) (put e.0.0 e.0.1 found) (λ next. option_and_then (members val n next) (after_element 125 e.1)) (λ next.
     leaves_rest_then (length text) (after_element 125 e.1) (members val n next) (rest_more (length e.1) (length text) _ few (after_element-leaves 125 e.1))
     (λ rest short. leaves_more (length rest) (length text) _ short (members-leaves val h n next rest)))) in
-    search (steps, closed, more)
+    leaves_either (length text) (first start == 125) (Some (close found, drop 1 start)) (option_and_then (λ e. option_and_then (λ next. option_and_then (members val n next) (after_element 125 e.1)) (put e.0.0 e.0.1 found)) (keyval val start)) (record { few = closed }) more
 
 unquoted-leaves : (text : List ℕ) → Leaves (length text) (unquoted text)
 unfolding unquoted
@@ -246,7 +246,8 @@ val-leaves (suc depth) text =
     let few = drop-within 1 text in
     let list = leaves_map (length text) array _ (leaves_more (length (drop 1 text)) (length text) _ few (items-leaves (val depth) (val-leaves depth) (length text) no_items (drop 1 text))) in
     let inline = leaves_map (length text) table _ (leaves_more (length (drop 1 text)) (length text) _ few (members-leaves (val depth) (val-leaves depth) (length text) no_nodes (drop 1 text))) in
-    search (steps, atom-leaves, list, inline)
+    let either = leaves_either (length text) (first text == 123) (option_map (λ p. (table p.0, p.1)) (members (val depth) (length text) no_nodes (drop 1 text))) (atom text) inline (atom-leaves text) in
+    leaves_either (length text) (first text == 91) (option_map (λ p. (array p.0, p.1)) (items (val depth) (length text) no_items (drop 1 text))) _ list either
 
 -- ---- expressions
 
@@ -264,8 +265,9 @@ expression-leaves text =
     (λ k few. leaves_rest (length text) (k.0, array_table) (after_byte 93 k.1) (rest_more (length k.1) (length text) _ few (after_byte-leaves 93 k.1))) in
     let one = leaves_map (length text) (λ (k : Key). (k, std_table)) (header_key (drop 1 text)) (leaves_more (length (drop 1 text)) (length text) _ (drop-within 1 text) (header_key-leaves (drop 1 text))) in
     let pair = leaves_map (length text) (λ (p : Key × Data). (p.0, key_value p.1)) (keyval (val 80) text) (keyval-leaves (val 80) (val-leaves 80) text) in
-    search (steps, tables, one, pair)
+    let either = leaves_either (length text) (first text == 91) (option_map (λ p. ((p.0, std_table), p.1)) (header_key (drop 1 text))) (option_map (λ p. ((p.0.0, key_value p.0.1), p.1)) (keyval (val 80) text)) one pair in
+    leaves_either (length text) (first text == 91 && slice_index text 1 == 91) (option_and_then (λ k. option_map (λ rest. ((k.0, array_table), rest)) (after_byte 93 k.1)) (header_key (drop 2 text))) _ tables either
 
 pub line-leaves : (text : List ℕ) → Leaves (length text) (line text)
 unfolding line
-line-leaves text = leaves_then (length text) (expression text) _ (expression-leaves text) (λ e few. search (steps, few))
+line-leaves text = leaves_then (length text) (expression text) _ (expression-leaves text) (λ e few. leaves_either (length text) (ends_line (skip_ws e.1)) (Some e) None (record { few = few }) (record { few = tt }))
