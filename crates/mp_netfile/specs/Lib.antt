@@ -1,0 +1,6 @@
+pub mod Keys
+pub mod Meaning
+pub mod Right
+pub mod TableRules
+pub mod Printed
+pub mod Faults

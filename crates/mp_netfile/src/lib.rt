@@ -1,0 +1,11 @@
+//! The network file: from TOML to a network and back.
+#![tactic(auto)]
+
+mod keys;
+mod parts;
+mod read;
+mod tables;
+mod values;
+
+pub use parts::net_parts;
+pub use read::{check_tree, read_tree};
