@@ -33,16 +33,19 @@ record IsEachRight (d : Data) : Type 0 where
 
 each_right : (d : Data) → IsRight d → IsEachRight d
 each_right d right =
-    let numbers = spotless _ _ _ _ right.numbers in
-    let names = spotless _ _ _ _ right.names in
+    let shares = number_at (codes "shares") d in
+    let per = number_at (codes "per") d in
+    let numbers = spotless (has_bad_number shares per Top d) (position_from (has_bad_number shares per Link) 1 (section (codes "link") d)) (position_from (has_bad_number shares per Movement) 1 (section (codes "movement") d))
+    (position_from (has_bad_number shares per Junction) 1 (section (codes "junction") d)) right.numbers in
+    let names = spotless false (position_from (has_bad_name Link) 1 (section (codes "link") d)) (position_from (has_bad_name Movement) 1 (section (codes "movement") d)) (position_from (has_bad_name Junction) 1 (section (codes "junction") d)) right.names in
     record {
       top = top_in_range (number_at (codes "shares") d) (number_at (codes "per") d) d numbers.top;
-      links = none_placed _ 1 (section (codes "link") d) numbers.links;
-      movements = none_placed _ 1 (section (codes "movement") d) numbers.movements;
-      junctions = none_placed _ 1 (section (codes "junction") d) numbers.junctions;
-      link_names = none_placed _ 1 (section (codes "link") d) names.links;
-      movement_names = none_placed _ 1 (section (codes "movement") d) names.movements;
-      junction_names = none_placed _ 1 (section (codes "junction") d) names.junctions;
+      links = none_placed (has_bad_number shares per Link) 1 (section (codes "link") d) numbers.links;
+      movements = none_placed (has_bad_number shares per Movement) 1 (section (codes "movement") d) numbers.movements;
+      junctions = none_placed (has_bad_number shares per Junction) 1 (section (codes "junction") d) numbers.junctions;
+      link_names = none_placed (has_bad_name Link) 1 (section (codes "link") d) names.links;
+      movement_names = none_placed (has_bad_name Movement) 1 (section (codes "movement") d) names.movements;
+      junction_names = none_placed (has_bad_name Junction) 1 (section (codes "junction") d) names.junctions;
     }
 
 link_table : (shares per : ℕ) (x : Data) → per ≤ 3600 → has_bad_number shares per Link x ≡ false → has_bad_name Link x ≡ false → IsLinkTable x

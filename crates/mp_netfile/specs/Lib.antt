@@ -1,5 +1,6 @@
 pub mod Keys
 pub mod Meaning
+pub mod Numbered
 pub mod Right
 pub mod TableRules
 pub mod Printed
