@@ -172,11 +172,11 @@ joined d net keys missing version numbers names same later =
     let all : first_broken (tree_rules d) ≡ None = rw (keys, missing, version, numbers, names) hold in
     ap (unless (network_from d)) all ∙ ap (λ (n : Network). unless n None) same
 
-tree_meaning-tree : (net : Network) → IsAcceptable net → first_broken (part_rules net) ≡ None → tree_meaning (table (network_tree net)) ≡ Ok net
+pub tree_meaning-tree : (net : Network) → IsAcceptable net → first_broken (part_rules net) ≡ None → tree_meaning (table (network_tree net)) ≡ Ok net
 tree_meaning-tree net a sound =
     let number = none_of _ _ _ sound in
     let name = none_of _ _ _ number.1 in
     joined (table (network_tree net)) net (unknown_key-tree net) (missing_key-tree net) (version_one net) (numbers-tree net number.0) (names-tree net a) (network_from-tree net (printable net a)) name.1
 
-pub text_means : (net : Network) (bytes : List ℕ) → IsAcceptable net → first_broken (part_rules net) ≡ None → IsUtf8 bytes → parse_document bytes ≡ Some (network_tree net) → text_meaning bytes ≡ Ok net
-text_means net bytes a sound utf8 read = rw (is_utf8-from_IsUtf8 bytes utf8, read) (tree_meaning-tree net a sound)
+pub text_means : (net : Network) (bytes : List ℕ) → tree_meaning (table (network_tree net)) ≡ Ok net → IsUtf8 bytes → parse_document bytes ≡ Some (network_tree net) → text_meaning bytes ≡ Ok net
+text_means net bytes means utf8 read = rw (is_utf8-from_IsUtf8 bytes utf8, read) means

@@ -3,9 +3,11 @@
 
 mod keys;
 mod parts;
+mod print;
 mod read;
 mod tables;
 mod values;
 
 pub use parts::net_parts;
+pub use print::print_net;
 pub use read::{check_tree, read_tree};
