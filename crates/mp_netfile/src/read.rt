@@ -8,9 +8,9 @@ ghost use Rattle.mp_netfile.specs.Meaning.{file_meaning, tree_meaning, tree_rule
 ghost use Rattle.mp_netfile.specs.Right.{IsRight};
 ghost use Rattle.mp_netfile.specs.Faults.{IsFaultOf, HasFewTables};
 
-use crate::tables::{TableRule, first_spot, first_table};
+use crate::tables::{TableRule, first_table};
 use crate::values::{has_bad_number, number_at};
-use mp_net::{NetFault, NetRule, Section, Spot};
+use mp_net::{NetFault, NetRule, Section, Spot, first_spot};
 use mp_tree::integer_at;
 use std::alloc::Global;
 use toml::Value;

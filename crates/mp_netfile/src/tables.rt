@@ -2,14 +2,13 @@
 ghost use Rattle.std.specs.Prelude.{◌≡◌, ◌<◌, ◌^◌, length, map};
 ghost use Rattle.std.specs.List.{position_from};
 ghost use Rattle.toml.specs.View.{view};
-ghost use Rattle.mp_net.specs.Spots.{first_spot};
 ghost use Rattle.mp_netfile.specs.Keys.{first_table};
 ghost use Rattle.mp_netfile.specs.TableRules.{breaks, IsInRange};
 ghost use Rattle.mp_netfile.specs.Faults.{HasFewTables};
 
 use crate::keys::{has_unlisted_key, lacks_key};
 use crate::values::{has_bad_name, has_bad_number};
-use mp_net::{Section, Spot};
+use mp_net::{Section, Spot, first_spot};
 use mp_tree::section;
 use toml::Value;
 
@@ -51,25 +50,6 @@ fn first_in(rule: TableRule, kind: Section, tables: &[Value]) -> Option<u32>
         }
     }
     None
-}
-
-/// The first of these spots, in the order of the sections.
-pub fn first_spot(
-    top: bool,
-    link: Option<u32>,
-    movement: Option<u32>,
-    junction: Option<u32>,
-) -> Option<Spot>
-    ensures { result ≡ first_spot top link movement junction }
-{
-    let (section, number) = match (top, link, movement, junction) {
-        (true, _, _, _) => (Section::Top, 0),
-        (_, Some(l), _, _) => (Section::Link, l),
-        (_, _, Some(k), _) => (Section::Movement, k),
-        (_, _, _, Some(j)) => (Section::Junction, j),
-        _ => return None,
-    };
-    Some(Spot { section, number })
 }
 
 /// The first table that breaks the rule: the top, or a table of a section by its number.
