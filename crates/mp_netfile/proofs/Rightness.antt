@@ -1,5 +1,5 @@
 -- What a right tree gives: its parts can be read, and they break no rule on numbers and names.
-use Rattle.std.proofs.Common.{◌≡◌, ℕ, ◌≤◌, ◌<◌, ◌*◌, ◌^◌, Bool, true, false, not, ◌||◌, List, length, map, get_or, Option, Some, None, Result, Ok, Err, codes, refl, ap, sym, ◌∙◌, arith}
+use Rattle.std.proofs.Common.{◌≡◌, ℕ, ◌≤◌, ◌<◌, ◌*◌, ◌^◌, Bool, true, false, not, ◌||◌, List, length, map, get_or, Option, Some, None, Result, Ok, Err, IfErr, codes, refl, ap, sym, ◌∙◌, arith}
 use Rattle.std.specs.List.{position_from, find, range_with_len, AllByRecursion}
 use Rattle.std.proofs.lemmas.List.{length-map}
 use Rattle.toml.specs.Data.{Data}
@@ -153,3 +153,7 @@ pub first_here : (name : NetRule) (spot : Option Spot) (later : Option (NetRule 
 first_here name (Some spot) later fault first = first
 first_here name None later (Rule rule spot) first = cc
 first_here name None later NoMemory first = tt
+
+pub if_refused : {A : Type 0} (P Q : NetFault → Type 0) (r : Result A NetFault) → ((fault : NetFault) → P fault → Q fault) → IfErr r P → IfErr r Q
+if_refused P Q (Ok x) h refused = tt
+if_refused P Q (Err fault) h refused = h fault refused

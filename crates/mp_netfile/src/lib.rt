@@ -8,6 +8,5 @@ mod read;
 mod tables;
 mod values;
 
-pub use parts::net_parts;
 pub use print::print_net;
-pub use read::{check_tree, read_tree};
+pub use read::read_net;

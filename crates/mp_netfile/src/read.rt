@@ -1,16 +1,16 @@
 //! A network from the bytes of a file.
-ghost use Rattle.std.specs.Prelude.{◌≡◌, ◌==◌, None, OnOk, IfOk, IfErr, codes};
+ghost use Rattle.std.specs.Prelude.{◌≡◌, ◌==◌, None, Ok, OnOk, IfOk, IfErr, codes};
 ghost use Rattle.toml.specs.View.{view};
-ghost use Rattle.mp_net.specs.Rules.{later_rules};
 ghost use Rattle.mp_net.specs.Spots.{first_broken, or_later};
 ghost use Rattle.mp_net.specs.Refused.{IsFirst};
 ghost use Rattle.mp_netfile.specs.Meaning.{file_meaning, tree_meaning, tree_rules, number_at, bad_version, bad_number_in, network_from};
 ghost use Rattle.mp_netfile.specs.Right.{IsRight};
 ghost use Rattle.mp_netfile.specs.Faults.{IsFaultOf, HasFewTables};
 
+use crate::parts::net_parts;
 use crate::tables::{TableRule, first_table};
 use crate::values::{has_bad_number, number_at};
-use mp_net::{NetFault, NetRule, Section, Spot, first_spot};
+use mp_net::{Net, NetFault, NetRule, Section, Spot, build, first_spot};
 use mp_tree::integer_at;
 use std::alloc::Global;
 use toml::Value;
@@ -31,7 +31,7 @@ fn at_top(rule: NetRule) -> NetFault
 }
 
 /// The tree of a file.
-pub fn read_tree(alloc: Global, bytes: &[u8]) -> Result<Value, NetFault>
+fn read_tree(alloc: Global, bytes: &[u8]) -> Result<Value, NetFault>
     ensures ok { IfOk result (λ tree. file_meaning bytes.now ≡ tree_meaning (view tree)) }
     ensures few { IfOk result (λ tree. HasFewTables (view tree)) }
     ensures err { IfErr result (IsFaultOf (file_meaning bytes.now)) }
@@ -94,7 +94,7 @@ fn refuse(rule: NetRule, spot: Option<Spot>) -> Result<(), NetFault>
 }
 
 /// Tries the rules on keys, types, version, numbers and names, each over the whole tree.
-pub fn check_tree(tree: &Value) -> Result<(), NetFault>
+fn check_tree(tree: &Value) -> Result<(), NetFault>
     requires { HasFewTables (view tree.now) }
     ensures ok { OnOk result (IsRight (view tree.now)) }
     ensures err { IfErr result (IsFirst (first_broken (tree_rules (view tree.now)))) }
@@ -110,4 +110,18 @@ pub fn check_tree(tree: &Value) -> Result<(), NetFault>
     refuse(NetRule::BadVersion, bad_version(tree))?;
     refuse(NetRule::BadNumber, bad_number(tree))?;
     refuse(NetRule::BadName, first_table(TableRule::Names, tree))
+}
+
+/// The network of a file, or the first rule that its bytes break, with the first spot where they do.
+///
+/// The rules are tried in the order of [`NetRule`], each over the whole file before the next.
+/// `NetFault::NoMemory` says nothing of the file.
+pub fn read_net(alloc: Global, bytes: &[u8]) -> Result<Net, NetFault>
+    ensures ok { IfOk result (λ net. file_meaning bytes.now ≡ Ok net) }
+    ensures refused { IfErr result (IsFaultOf (file_meaning bytes.now)) }
+{
+    let tree = read_tree(alloc, bytes)?;
+    check_tree(&tree)?;
+    let parts = net_parts(alloc, &tree)?;
+    build(alloc, parts)
 }
