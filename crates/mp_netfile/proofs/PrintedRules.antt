@@ -88,7 +88,7 @@ numbers-tree net none =
     rw s.1 (none_placed (has_bad_number net.shares net.per Movement) (movement_tree net) (λ movement. bad_movement movement ≡ false) 1 net.movements (λ movement bad. bad) (none_entry bad_movement net.movements no_movement h.movements)) in
     let junctions : position_from (has_bad_number net.shares net.per Junction) 1 (section (codes "junction") (table (network_tree net))) ≡ None =
     rw s.2 (none_placed (has_bad_number net.shares net.per Junction) (junction_tree net) (λ junction. bad_junction junction ≡ false) 1 net.junctions (λ junction bad. rw (items_list-of (map (stage_tree net) junction.stages), length-map junction.stages (stage_tree net)) bad)
-      (none_entry bad_junction net.junctions no_junction h.junctions)) in
+    (none_entry bad_junction net.junctions no_junction h.junctions)) in
     nowhere _ _ _ _ top links movements junctions
 
 -- ---- names
@@ -145,10 +145,10 @@ names-tree net a =
     rw s.0 (none_placed (has_bad_name Link) link_tree (λ link. (is_name link.name ≡ true) × (is_out link.name ≡ false)) 1 net.links (λ link named. or_false _ _ (is_name_not link.name named.0) named.1) a.names.links) in
     let movements : position_from (has_bad_name Movement) 1 (section (codes "movement") (table (network_tree net))) ≡ None =
     rw s.1 (none_placed (has_bad_name Movement) (movement_tree net) (λ movement. (is_name movement.name ≡ true) × HasEnds net movement) 1 net.movements (λ movement h. bad_movement_name net movement a h.0 h.1)
-      (both (λ movement. is_name movement.name ≡ true) (HasEnds net) (λ movement. (is_name movement.name ≡ true) × HasEnds net movement) net.movements (λ movement name there. (name, there)) a.names.movements (ends net a))) in
+    (both (λ movement. is_name movement.name ≡ true) (HasEnds net) (λ movement. (is_name movement.name ≡ true) × HasEnds net movement) net.movements (λ movement name there. (name, there)) a.names.movements (ends net a))) in
     let junctions : position_from (has_bad_name Junction) 1 (section (codes "junction") (table (network_tree net))) ≡ None =
     rw s.2 (none_placed (has_bad_name Junction) (junction_tree net) (λ j. (is_name j.name ≡ true) × AllByRecursion (AllByRecursion (IsMovement net)) j.stages) 1 net.junctions (λ j h. bad_junction_name net j a h.0 h.1)
-      (both (λ j. is_name j.name ≡ true) (λ j. AllByRecursion (AllByRecursion (IsMovement net)) j.stages) (λ j. (is_name j.name ≡ true) × AllByRecursion (AllByRecursion (IsMovement net)) j.stages) net.junctions (λ j name all. (name, all)) a.names.junctions (all_stages net a))) in
+    (both (λ j. is_name j.name ≡ true) (λ j. AllByRecursion (AllByRecursion (IsMovement net)) j.stages) (λ j. (is_name j.name ≡ true) × AllByRecursion (AllByRecursion (IsMovement net)) j.stages) net.junctions (λ j name all. (name, all)) a.names.junctions (all_stages net a))) in
     nowhere false _ _ _ refl links movements junctions
 
 -- ---- the meaning

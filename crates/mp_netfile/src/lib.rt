@@ -6,6 +6,8 @@ mod parts;
 mod print;
 mod read;
 mod tables;
+#[cfg(test)]
+mod tests;
 mod values;
 
 pub use print::print_net;

@@ -9,9 +9,7 @@ ghost use Rattle.mp_netfile.specs.Meaning.{name_at, number_of, texts_of, link_fr
 ghost use Rattle.mp_netfile.specs.Right.{HasName, IsLinkTable, IsMovementTable, HasParts};
 
 use crate::values::{items_at, name_at, number_at, text_or_empty};
-use mp_net::{
-    JunctionPart, LinkNo, LinkPart, MovementNo, MovementPart, Name, NetParts, NoMemory,
-};
+use mp_net::{JunctionPart, LinkNo, LinkPart, MovementNo, MovementPart, Name, NetParts, NoMemory};
 use mp_tree::{items, section};
 use std::alloc::Global;
 use toml::Value;
