@@ -4,7 +4,8 @@
 mod command;
 mod message;
 mod outcome;
-mod top;
+mod program;
 
+pub use command::Command;
 pub use outcome::Outcome;
-pub use top::top;
+pub use program::top;

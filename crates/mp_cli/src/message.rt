@@ -1,6 +1,6 @@
 //! The line on the error output.
 ghost use Rattle.std.specs.Prelude.{◌≡◌, ◌≤◌, ◌+◌, ◌++◌, ◌∷◌, [], length, codes};
-ghost use Rattle.mp_edge.specs.Outside.{Tells, Puts};
+ghost use Rattle.mp_edge.specs.Outside.{Tells, Puts, HasCause};
 ghost use Rattle.mp_cli.specs.Messages.{rule_number, spot_text, message_of, plain_message};
 
 use crate::outcome::Outcome;
@@ -83,7 +83,8 @@ fn push_message(line: &mut LineSink, outcome: Outcome)
 
 // Puts the line of a fault of the store, which names the file.
 fn put_store<Er: Sink>(err: &mut Er, name: &str) -> Result<(), Failed>
-    ensures { Tells (Er.held err.old) (Er.held err.new) (Puts result (codes "store " ++ (name.now ++ 10 ∷ []))) }
+    ensures bytes { Tells (Er.held err.old) (Er.held err.new) (Puts result (codes "store " ++ (name.now ++ 10 ∷ []))) }
+    ensures cause { HasCause (Er.faults err.old) (Er.faults err.new) result }
 {
     err.put(b"store ")?;
     err.put(name.as_bytes())?;
@@ -92,7 +93,8 @@ fn put_store<Er: Sink>(err: &mut Er, name: &str) -> Result<(), Failed>
 
 /// Puts the line of an outcome other than `Done`.
 pub fn put_message<Er: Sink>(err: &mut Er, outcome: Outcome, name: &str) -> Result<(), Failed>
-    ensures { Tells (Er.held err.old) (Er.held err.new) (Puts result (message_of name.now outcome)) }
+    ensures bytes { Tells (Er.held err.old) (Er.held err.new) (Puts result (message_of name.now outcome)) }
+    ensures cause { HasCause (Er.faults err.old) (Er.faults err.new) result }
 {
     if let Outcome::Store = outcome {
         return put_store(err, name);

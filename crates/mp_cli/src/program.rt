@@ -108,6 +108,7 @@ fn obey<St: Store, In: Source, Out: Sink>(
     input: &mut In,
     out: &mut Out,
 ) -> Outcome
+    ensures words { command ≡ Command.Unknown → result ≡ Outcome.Words }
     ensures means { Means result command (St.files store.old) name.now (In.left input.old) (In.left input.new) (Out.held out.old) (Out.held out.new) }
     ensures store { result ≡ Outcome.Store → Rose (St.faults store.old) (St.faults store.new) }
     ensures read { result ≡ Outcome.Read → Rose (In.faults input.old) (In.faults input.new) }
