@@ -1,0 +1,15 @@
+pub mod CheckedLemmas
+pub mod Ring
+pub mod DivisorLemmas
+pub mod DivisionLemmas
+pub mod CeilingLemmas
+pub mod FracLemmas
+pub mod PassingLemmas
+pub mod OutcomeLemmas
+pub mod RowLemmas
+pub mod SumLemmas
+pub mod TableLemmas
+pub mod CombineLemmas
+pub mod MultipleLemmas
+pub mod AppliedLemmas
+pub mod OrderLemmas
