@@ -7,8 +7,10 @@ ghost use Rattle.mp_num.specs.Checked.{within, compared};
 ghost use Rattle.mp_num.specs.Divisor.{gcd_of, reduced};
 ghost use Rattle.mp_num.specs.Fraction.{IsLowest, lowest_terms};
 
+mod numbers;
 pub mod rows;
 
+pub use crate::numbers::Numbers;
 use crate::rows::{common_divisor, quotient};
 use std::cmp::Ordering;
 use std::marker::Model;
