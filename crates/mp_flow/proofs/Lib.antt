@@ -1,0 +1,11 @@
+pub mod CombineLemmas
+pub mod TableLemmas
+pub mod ColumnLemmas
+pub mod TheoremLemmas
+pub mod LoopLemmas
+pub mod DiagonalLemmas
+pub mod AnswerLemmas
+pub mod SolutionLemmas
+pub mod KernelLemmas
+pub mod SolveLemmas
+pub mod SingularLemmas

@@ -1,0 +1,4 @@
+pub mod Elimination
+pub mod Columns
+pub mod Answers
+pub mod Meeting
