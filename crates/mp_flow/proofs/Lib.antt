@@ -9,3 +9,4 @@ pub mod SolutionLemmas
 pub mod KernelLemmas
 pub mod SolveLemmas
 pub mod SingularLemmas
+pub mod KernelRight

@@ -152,7 +152,7 @@ finished_answer n rights rows (Some e) x d h =
     let a = answered_answer (n + 1) e (answers n rights e rows) x d h in
     (ap Some a.0, ap (λ t. answers n rights t rows) (sym a.0) ∙ a.1)
 
-ended_answer : (n rights : ℕ) (e : Elimination) (x : List ℤ) (d : ℤ) → ended n rights e ≡ Answer x d → (final : List (List ℤ)) × (e ≡ Through final) × (denominator n final ≡ Some d) × (answers n rights d final ≡ Some x)
+pub ended_answer : (n rights : ℕ) (e : Elimination) (x : List ℤ) (d : ℤ) → ended n rights e ≡ Answer x d → (final : List (List ℤ)) × (e ≡ Through final) × (denominator n final ≡ Some d) × (answers n rights d final ≡ Some x)
 ended_answer n rights (PassedAt j) x d h = absurd (cc)
 ended_answer n rights (StuckAt j rows) x d h = absurd (stuck_apart n j rows (denominator j rows) x d h)
 ended_answer n rights (Through rows) x d h = let f = finished_answer n rights rows (denominator n rows) x d h in (rows, refl, f.0, f.1)
@@ -175,8 +175,3 @@ solved_answers n rights rows x d ln widths h s hs =
     λ k u l. answered_from_applied n rights s (get_or rows k u) x d hs
     (reduced_solves (n + rights) (extended n s x d) (get_or rows k u)
     (subst Z (get_or-map reduced rows k u u l) (solved_rows k u (omega (arith, length-map rows reduced)))))
-
--- ---- the kernel
--- the kernel's values as a list of values over all columns
-abbrev pub padded : ℕ → List ℤ → ℕ → ℤ
-padded n x k = cond (nat_lt k n) (entry x k) (pos 0)

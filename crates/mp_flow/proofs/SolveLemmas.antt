@@ -5,6 +5,14 @@ use Rattle.mp_flow.specs.Elimination.{turn, Turned, HasPivots, eliminated, Throu
 use Rattle.mp_flow.specs.Answers.{denominator, answers, kernel, finished, stuck, solved, Answer, Kernel, Passes, Answers}
 use Rattle.mp_flow.proofs.DiagonalLemmas.{IsCleared, cleared_turn}
 use Rattle.mp_flow.proofs.SolutionLemmas.{solved_answers}
+use Rattle.mp_flow.proofs.KernelRight.{solved_kernel, solved_shape}
+use Rattle.std.proofs.Common.{Result, Ok, Err}
+use Rattle.std.specs.Prelude.{IfOk}
+use Rattle.mp_flow.specs.declared.solving.Solved.{Solved}
+use Rattle.mp_flow.specs.declared.solving.SolveFault.{SolveFault}
+use Rattle.mp_flow.specs.declared.solving.SolveFault.TheVariants.{Singular, Overflow, NoMemory}
+use Rattle.mp_flow.specs.Meeting.{Meets, IfSingular}
+use Rattle.mp_flow.specs.Answers.{IsKernel}
 use Rattle.mp_flow.proofs.LoopLemmas.{Pending, pending_start, pending_more, pending_stuck, pending_passes, pending_end}
 use Rattle.mp_num.specs.Row.{rows_of}
 use Rattle.mp_num.proofs.TableLemmas.{entry-rows_of, length-rows_of}
@@ -62,7 +70,28 @@ pub solved_through : (n rights : ℕ) (rows before now : List (List ℤ)) → be
 unfolding solved
 solved_through n rights rows before now b e = rw (← b, e) refl
 
-pub answers_right : (n rights : ℕ) (cells x : List ℤ) (d : ℤ) → length cells ≡ n * (n + rights) → solved n rights (rows_of n (n + rights) cells) ≡ Answer x d → Answers n rights (rows_of n (n + rights) cells) x d
-answers_right n rights cells x d h e = solved_answers n rights _ x d (length-rows_of n (n + rights) cells) (widths-rows_of n (n + rights) cells h) e
 
-pub ruleset solving = (solved_stuck, solved_passes, solved_through, answers_right)
+-- what a result of the calculation means, whatever it is
+pub answers_right : (n rights : ℕ) (cells : List ℤ) (r : Result Solved SolveFault) → length cells ≡ n * (n + rights) → Meets r (solved n rights (rows_of n (n + rights) cells)) →
+    IfOk r (λ s. Answers n rights (rows_of n (n + rights) cells) s.x s.d)
+answers_right n rights cells (Ok s) h e = solved_answers n rights (rows_of n (n + rights) cells) s.x s.d (length-rows_of n (n + rights) cells) (widths-rows_of n (n + rights) cells h) e
+answers_right n rights cells (Err f) h e = tt
+
+pub kernel_right : (n rights : ℕ) (cells : List ℤ) (r : Result Solved SolveFault) → length cells ≡ n * (n + rights) → Meets r (solved n rights (rows_of n (n + rights) cells)) →
+    IfSingular r (λ x. IsKernel n (rows_of n (n + rights) cells) x)
+kernel_right n rights cells (Ok s) h e = tt
+kernel_right n rights cells (Err (Singular x)) h e = solved_kernel n rights (rows_of n (n + rights) cells) x (length-rows_of n (n + rights) cells) (widths-rows_of n (n + rights) cells h) e
+kernel_right n rights cells (Err (Overflow column)) h e = tt
+kernel_right n rights cells (Err NoMemory) h e = tt
+
+pub positive_right : (n rights : ℕ) (cells : List ℤ) (r : Result Solved SolveFault) → length cells ≡ n * (n + rights) → Meets r (solved n rights (rows_of n (n + rights) cells)) → IfOk r (λ s. pos 1 ≤ℤ s.d)
+positive_right n rights cells (Ok s) h e = (solved_shape n rights (rows_of n (n + rights) cells) s.x s.d (length-rows_of n (n + rights) cells) (widths-rows_of n (n + rights) cells h) e).positive
+positive_right n rights cells (Err f) h e = tt
+
+pub values_right : (n rights : ℕ) (cells : List ℤ) (r : Result Solved SolveFault) → length cells ≡ n * (n + rights) → Meets r (solved n rights (rows_of n (n + rights) cells)) → IfOk r (λ s. length s.x ≡ rights * n)
+values_right n rights cells (Ok s) h e = (solved_shape n rights (rows_of n (n + rights) cells) s.x s.d (length-rows_of n (n + rights) cells) (widths-rows_of n (n + rights) cells h) e).values
+values_right n rights cells (Err f) h e = tt
+
+pub ruleset solving = (solved_stuck, solved_passes, solved_through)
+
+pub ruleset meanings = (answers_right, kernel_right, positive_right, values_right)

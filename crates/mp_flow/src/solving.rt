@@ -1,9 +1,9 @@
 //! Linear systems over whole numbers, by elimination.
-ghost use Rattle.std.specs.Prelude.{◌≡◌, ◌+◌, ◌*◌, ◌<◌, ◌≤◌, ◌≤ℤ◌, pos, length, vec_len, IfOk, option_map, vec_items};
+ghost use Rattle.std.specs.Prelude.{◌≡◌, ◌+◌, ◌*◌, ◌^◌, ◌<◌, ◌≤◌, ◌≤ℤ◌, pos, length, vec_len, IfOk, option_map, vec_items};
 ghost use Rattle.mp_num.specs.Row.{rows_of};
 ghost use Rattle.mp_flow.specs.Elimination.{HasPivots};
-ghost use Rattle.mp_flow.specs.Answers.{denominator, answers, kernel_at, kernel, solved, stuck, finished, Answers};
-ghost use Rattle.mp_flow.specs.Meeting.{Meets};
+ghost use Rattle.mp_flow.specs.Answers.{denominator, answers, kernel_at, kernel, solved, stuck, finished, Answers, IsKernel};
+ghost use Rattle.mp_flow.specs.Meeting.{Meets, IfSingular};
 
 use crate::elimination::{Ending, eliminate, reduce_all};
 use mp_num::rows::{lcm, quotient};
@@ -170,6 +170,22 @@ fn through_answer(
     }
 }
 
+/// Solves the system whose rows stand one after another in the cells.
+#[tactic(auto, using(crate::proofs::SolveLemmas::solving))]
+fn solve_cells(alloc: Global, cells: &mut [i128], n: usize, rights: usize) -> Result<Solved, SolveFault>
+    requires some { 0 < n }
+    requires size { length cells.old ≡ n * (n + rights) }
+    requires width { n + rights < 2 ^ 64 }
+    ensures { Meets result (solved n rights (rows_of n (n + rights) cells.old)) }
+{
+    reduce_all(cells, n, n + rights);
+    match eliminate(cells, n, n + rights) {
+        Ending::Passed { column } => Err(SolveFault::Overflow { column: column + 1 }),
+        Ending::Stuck { column } => stuck_answer(alloc, cells, n, n + rights, column),
+        Ending::Through => through_answer(alloc, cells, n, rights),
+    }
+}
+
 /// A system of `n` rows, each with `n` coefficients and `rights` right sides.
 #[derive(Drop)]
 pub struct Rows {
@@ -178,22 +194,20 @@ pub struct Rows {
     pub cells: Vec<i128>,
 }
 
-/// Solves the system for each right side. The cells are changed.
-#[tactic(auto, using(crate::proofs::SolveLemmas::solving))]
+/// Solves the system for each right side, over one denominator of at least 1. Its cells are open afterwards.
+///
+/// A system with no single answer is `Singular`, with a list of values, not all 0, whose sum with each row is 0.
+/// `Overflow` names the column, from 1, at which the calculation passes 128 bits, and one more than the last for the reading of the answers.
+#[tactic(auto, using(crate::proofs::SolveLemmas::meanings))]
 pub fn solve(alloc: Global, rows: &mut Rows) -> Result<Solved, SolveFault>
     requires some { 0 < rows.old.n }
     requires sides { 0 < rows.old.rights }
     requires size { vec_len rows.old.cells ≡ rows.old.n * (rows.old.n + rows.old.rights) }
     ensures calculation { Meets result (solved rows.old.n rows.old.rights (rows_of rows.old.n (rows.old.n + rows.old.rights) rows.old.cells.items)) }
+    ensures positive { IfOk result (λ s. pos 1 ≤ℤ s.d) }
+    ensures values { IfOk result (λ s. length s.x ≡ rows.old.rights * rows.old.n) }
     ensures answers { IfOk result (λ s. Answers rows.old.n rows.old.rights (rows_of rows.old.n (rows.old.n + rows.old.rights) rows.old.cells.items) s.x s.d) }
+    ensures kernel { IfSingular result (λ x. IsKernel rows.old.n (rows_of rows.old.n (rows.old.n + rows.old.rights) rows.old.cells.items) x) }
 {
-    let n = rows.n;
-    let width = n + rows.rights;
-    let cells = rows.cells.as_mut_slice();
-    reduce_all(cells, n, width);
-    match eliminate(cells, n, width) {
-        Ending::Passed { column } => Err(SolveFault::Overflow { column: column + 1 }),
-        Ending::Stuck { column } => stuck_answer(alloc, cells, n, width, column),
-        Ending::Through => through_answer(alloc, cells, n, rows.rights),
-    }
+    solve_cells(alloc, rows.cells.as_mut_slice(), rows.n, rows.rights)
 }
