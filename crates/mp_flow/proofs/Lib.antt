@@ -10,3 +10,7 @@ pub mod KernelLemmas
 pub mod SolveLemmas
 pub mod SingularLemmas
 pub mod KernelRight
+pub mod RouteLemmas
+pub mod NetworkLemmas
+pub mod SystemLemmas
+pub mod BalanceLemmas

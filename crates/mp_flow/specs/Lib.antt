@@ -2,3 +2,4 @@ pub mod Elimination
 pub mod Columns
 pub mod Answers
 pub mod Meeting
+pub mod Systems

@@ -5,3 +5,7 @@ mod elimination;
 mod solving;
 
 pub use crate::solving::{Rows, SolveFault, Solved, solve};
+
+#[tactic(auto, using(crate::proofs::BalanceLemmas::balances))]
+fn dummy() {
+}
