@@ -1,5 +1,5 @@
 -- The answers of a network's two systems: balanced at each link, not negative, and with no kernel.
-use Rattle.std.proofs.Common.{◌≡◌, ◌≢◌, ◌==◌, ℕ, zero, suc, ◌+◌, ◌-◌, ◌*◌, ◌<◌, ◌≤◌, Bool, true, false, cond, List, [], ◌∷◌, ◌++◌, length, map, sum_by, get_or, take, drop, Option, Some, None, ℤ, pos, negsuc, ◌+ℤ◌, ◌-ℤ◌, ◌*ℤ◌, ◌≤ℤ◌, refl, ap, ap₂, sym, ◌∙◌, subst, arith, All, eq-eqb, ne_eqb, length-take-le, length-drop}
+use Rattle.std.proofs.Common.{◌≡◌, ◌≢◌, ◌==◌, ℕ, ◌+◌, ◌-◌, ◌*◌, ◌<◌, Bool, true, false, cond, List, [], ◌∷◌, length, sum_by, get_or, take, drop, Option, Some, None, ℤ, pos, negsuc, ◌+ℤ◌, ◌-ℤ◌, ◌*ℤ◌, ◌≤ℤ◌, ap, ap₂, sym, ◌∙◌, subst, arith, All, eq-eqb, ne_eqb, length-take-le, length-drop}
 use Rattle.std.specs.Prelude.{IfSome}
 use Rattle.std.specs.List.{AllByRecursion}
 use Rattle.std.proofs.lemmas.Int.{ints}
@@ -7,7 +7,7 @@ use Rattle.std.proofs.lemmas.List.{get_or-take, get_or-drop, length-map}
 use Rattle.std.proofs.lemmas.List.FromFn.{length-range_with_len}
 use Rattle.std.proofs.lemmas.List.Sums.{sum_by-cons}
 use Rattle.mp_model.specs.Sums.{int_sum_by}
-use Rattle.mp_model.specs.Network.{Network, link_numbers, movement_numbers, numbers_to, link_at, from_of, to_of, share_of, into_link, out_of, goes_to, has}
+use Rattle.mp_model.specs.Network.{Network, link_numbers, movement_numbers, link_at, from_of, to_of, share_of, into_link, out_of, goes_to, has}
 use Rattle.mp_model.specs.NetworkRules.{IsNetwork}
 use Rattle.mp_model.specs.Certificate.{int_entry}
 use Rattle.mp_laws.proofs.Drift.{at_in, each_in}
@@ -18,8 +18,7 @@ use Rattle.mp_num.specs.Row.{entry}
 use Rattle.mp_num.proofs.SumLemmas.{total-same, total-one, total-zero, total-plus}
 use Rattle.mp_num.proofs.Ring.{diff_of, differences, diff-eq}
 use Rattle.mp_flow.specs.Answers.{RowAnswered, Answers, IsKernel}
-use Rattle.mp_flow.specs.Systems.{share_from, share_to, flow_cell, flow_row, flow_rows, worth_cell, worth_row, worth_rows, IsBalancedFlow, AreFlows, Flows, onward, IsBalancedWorth, AreWorths, Worths}
-use Rattle.mp_flow.proofs.RouteLemmas.{IsRouting}
+use Rattle.mp_flow.specs.Systems.{share_from, flow_cell, flow_row, flow_rows, worth_cell, worth_row, worth_rows, IsBalancedFlow, AreFlows, onward, IsBalancedWorth, AreWorths}
 use Rattle.mp_flow.proofs.NetworkLemmas.{flow_unique, flow_positive, worth_unique, worth_positive}
 use Rattle.mp_flow.proofs.SystemLemmas.{row_times, flow_entry, flow_side, worth_entry, worth_side, share_from_to, onto, outward, routing}
 
@@ -43,7 +42,7 @@ spread : (n : ℕ) (test : ℕ → ℕ → Bool) (w : ℕ → ℕ) (z at : ℕ �
 spread n test w z at [] h = total-zero n (λ m. pos 0 *ℤ z m) (λ k _. nothing (z k))
 spread n test w z at (j ∷ js) h =
     total-same n _ (λ m. pos (cond (test j m) (w j) 0) *ℤ z m +ℤ pos (sum_by (λ j. cond (test j m) (w j) 0) js) *ℤ z m)
-      (λ m _. ap (λ t. pos t *ℤ z m) (sum_by-cons (λ j. cond (test j m) (w j) 0) j js) ∙ sum_times (cond (test j m) (w j) 0) (sum_by (λ j. cond (test j m) (w j) 0) js) (z m))
+    (λ m _. ap (λ t. pos t *ℤ z m) (sum_by-cons (λ j. cond (test j m) (w j) 0) j js) ∙ sum_times (cond (test j m) (w j) 0) (sum_by (λ j. cond (test j m) (w j) 0) js) (z m))
     ∙ total-plus n (λ m. pos (cond (test j m) (w j) 0) *ℤ z m) (λ m. pos (sum_by (λ j. cond (test j m) (w j) 0) js) *ℤ z m)
     ∙ ap₂ (λ a b. a +ℤ b) h.0 (spread n test w z at js h.1)
 
@@ -70,9 +69,9 @@ module _ (net : Network) (ok : IsNetwork net) where
 
   by_link : (P : ℕ → Type 0) → ((l : ℕ) → l < count → P (1 + l)) → AllByRecursion P (link_numbers net)
   by_link P h = each_in P (link_numbers net) (λ l i.
-    (let range = in_numbers count l i in
-     let at : 1 + (l - 1) ≡ l = omega (arith, range) in
-     subst P at (h (l - 1) (omega (arith, range)))))
+      (let range = in_numbers count l i in
+      let at : 1 + (l - 1) ≡ l = omega (arith, range) in
+      subst P at (h (l - 1) (omega (arith, range)))))
 
   -- ---- the flows
   abbrev inflow : (ℕ → ℤ) → ℕ → ℤ
@@ -94,7 +93,7 @@ module _ (net : Network) (ok : IsNetwork net) where
   flow_kernel x k =
       let long : length (flow_rows net) ≡ count = length-map (link_numbers net) (flow_row net) ∙ length-range_with_len 1 count in
       k.some.2 (flow_unique count net.shares (onto net ok) (outward net ok) (λ m. entry x m) (routing net ok)
-        (λ m h. move (pos net.shares *ℤ entry x m) (inflow (λ m. entry x m) m) (pos 0) (sym (flow_times (λ m. entry x m) m h) ∙ k.solves m [] (omega (arith, long))) ∙ plus_none (inflow (λ m. entry x m) m) ∙ flow_turn (λ m. entry x m) m) k.some.0 k.some.1)
+      (λ m h. move (pos net.shares *ℤ entry x m) (inflow (λ m. entry x m) m) (pos 0) (sym (flow_times (λ m. entry x m) m h) ∙ k.solves m [] (omega (arith, long))) ∙ plus_none (inflow (λ m. entry x m) m) ∙ flow_turn (λ m. entry x m) m) k.some.0 k.some.1)
     where
       plus_none : (t : ℤ) → t +ℤ pos 0 ≡ t
       plus_none t = omega (arith, ints)
@@ -108,21 +107,23 @@ module _ (net : Network) (ok : IsNetwork net) where
   unfolding flow_rows
   flow_answered x f d s b same side answered =
       let long : length (flow_rows net) ≡ count = length-map (link_numbers net) (flow_row net) ∙ length-range_with_len 1 count in
-      record { at = λ l h. move (pos net.shares *ℤ entry f l) (inflow (λ m. entry f m) l) (d *ℤ pos (b (1 + l)))
-        (sym (flow_times (λ m. entry f m) l h)
-         ∙ total-same count _ _ (λ j i. ap (λ t. entry (get_or (flow_rows net) l []) j *ℤ t) (sym (same j i)))
-         ∙ answered l [] (omega (arith, long)) ∙ ap (λ t. d *ℤ t) (side l h)) }
+      record {
+        at = λ l h. move (pos net.shares *ℤ entry f l) (inflow (λ m. entry f m) l) (d *ℤ pos (b (1 + l)))
+            (sym (flow_times (λ m. entry f m) l h)
+            ∙ total-same count _ _ (λ j i. ap (λ t. entry (get_or (flow_rows net) l []) j *ℤ t) (sym (same j i)))
+            ∙ answered l [] (omega (arith, long)) ∙ ap (λ t. d *ℤ t) (side l h));
+      }
 
   from_in : (l j : ℕ) → has (into_link net l) j ≡ true → has (link_numbers net) (from_of net j) ≡ true
   from_in l j h = at_in (λ k. has (link_numbers net) (from_of net k) ≡ true) j (movement_numbers net) (filter_sub (λ k. goes_to (to_of net k) l) (movement_numbers net) j h) ok.from
 
   inflow_by_movements : (f : List ℤ) (l : ℕ) → inflow (λ m. entry f m) l ≡ int_sum_by (λ j. pos (share_of net j) *ℤ int_entry f (from_of net j)) (into_link net (1 + l))
   inflow_by_movements f l = spread count (λ j m. from_of net j == 1 + m) (share_of net) (λ m. entry f m) (λ j. int_entry f (from_of net j)) (into_link net (1 + l))
-    (each_in (λ j. total count (λ m. pos (cond (from_of net j == 1 + m) (share_of net j) 0) *ℤ entry f m) ≡ pos (share_of net j) *ℤ int_entry f (from_of net j)) (into_link net (1 + l))
+      (each_in (λ j. total count (λ m. pos (cond (from_of net j == 1 + m) (share_of net j) 0) *ℤ entry f m) ≡ pos (share_of net j) *ℤ int_entry f (from_of net j)) (into_link net (1 + l))
       (λ j i. (let range = in_numbers count (from_of net j) (from_in (1 + l) j i) in
-        one_column count (from_of net j - 1) (λ m. from_of net j == 1 + m) (share_of net j) (λ m. entry f m) (omega (arith, range))
-          (eq-eqb (from_of net j) (1 + (from_of net j - 1)) (omega (arith, range)))
-          (λ m apart. ne_eqb (from_of net j) (1 + m) (λ (e : from_of net j ≡ 1 + m). apart (omega (arith, e)))))))
+      one_column count (from_of net j - 1) (λ m. from_of net j == 1 + m) (share_of net j) (λ m. entry f m) (omega (arith, range))
+      (eq-eqb (from_of net j) (1 + (from_of net j - 1)) (omega (arith, range)))
+      (λ m apart. ne_eqb (from_of net j) (1 + m) (λ (e : from_of net j ≡ 1 + m). apart (omega (arith, e)))))))
 
   flow_balanced : (f : List ℤ) (d : ℤ) (b : ℕ → ℕ) → FlowAnswered f d b → AllByRecursion (λ l. IsBalancedFlow net f d (b l) l) (link_numbers net)
   flow_balanced f d b a = by_link (λ l. IsBalancedFlow net f d (b l) l) (λ l h.
@@ -131,18 +132,18 @@ module _ (net : Network) (ok : IsNetwork net) where
   flow_signs : (f : List ℤ) (d : ℤ) (b : ℕ → ℕ) → pos 1 ≤ℤ d → FlowAnswered f d b → AllByRecursion (λ l. pos 0 ≤ℤ int_entry f l) (link_numbers net)
   flow_signs f d b one a = by_link (λ l. pos 0 ≤ℤ int_entry f l) (λ l h.
       subst (λ (t : ℤ). pos 0 ≤ℤ t) (sym (int_entry-of f l))
-        (flow_positive count net.shares (onto net ok) (outward net ok) (λ m. entry f m) (λ m. d *ℤ pos (b (1 + m))) (routing net ok)
-          (λ m _. positive_times d (pos (b (1 + m))) one (omega (arith, ints)))
-          (λ m i. a.at m i ∙ ap (λ t. t +ℤ d *ℤ pos (b (1 + m))) (flow_turn (λ m. entry f m) m)) l h))
+      (flow_positive count net.shares (onto net ok) (outward net ok) (λ m. entry f m) (λ m. d *ℤ pos (b (1 + m))) (routing net ok)
+      (λ m _. positive_times d (pos (b (1 + m))) one (omega (arith, ints)))
+      (λ m i. a.at m i ∙ ap (λ t. t +ℤ d *ℤ pos (b (1 + m))) (flow_turn (λ m. entry f m) m)) l h))
 
   pub flows_right : (x : List ℤ) (d : ℤ) → pos 1 ≤ℤ d → length x ≡ 2 * count → Answers count 2 (flow_rows net) x d → AreFlows net (record { rate = take count x; unit = drop count x; d = d })
   flows_right x d one long answers =
       let rate : FlowAnswered (take count x) d (λ l. net.shares * (link_at net l).rate) =
-            flow_answered x (take count x) d 0 (λ l. net.shares * (link_at net l).rate)
-              (λ m h. ap (λ i. entry x i) (omega arith) ∙ sym (get_or-take count x m (pos 0) h)) (λ l h. flow_side net l 0 h) (answers 0 (omega arith)) in
+      flow_answered x (take count x) d 0 (λ l. net.shares * (link_at net l).rate)
+      (λ m h. ap (λ i. entry x i) (omega arith) ∙ sym (get_or-take count x m (pos 0) h)) (λ l h. flow_side net l 0 h) (answers 0 (omega arith)) in
       let unit : FlowAnswered (drop count x) d (λ l. net.shares * length (into_link net l)) =
-            flow_answered x (drop count x) d 1 (λ l. net.shares * length (into_link net l))
-              (λ m h. ap (λ i. entry x i) (omega arith) ∙ sym (get_or-drop count x m (pos 0))) (λ l h. flow_side net l 1 h) (answers 1 (omega arith)) in
+      flow_answered x (drop count x) d 1 (λ l. net.shares * length (into_link net l))
+      (λ m h. ap (λ i. entry x i) (omega arith) ∙ sym (get_or-drop count x m (pos 0))) (λ l h. flow_side net l 1 h) (answers 1 (omega arith)) in
       record {
         denominator = one;
         rates = length-take-le count x (omega arith);
@@ -150,7 +151,8 @@ module _ (net : Network) (ok : IsNetwork net) where
         rate_balance = flow_balanced (take count x) d (λ l. net.shares * (link_at net l).rate) rate;
         unit_balance = flow_balanced (drop count x) d (λ l. net.shares * length (into_link net l)) unit;
         rate_sign = flow_signs (take count x) d (λ l. net.shares * (link_at net l).rate) one rate;
-        unit_sign = flow_signs (drop count x) d (λ l. net.shares * length (into_link net l)) one unit }
+        unit_sign = flow_signs (drop count x) d (λ l. net.shares * length (into_link net l)) one unit;
+      }
 
   -- ---- the worths
   abbrev ahead : (ℕ → ℤ) → ℕ → ℤ
@@ -167,7 +169,7 @@ module _ (net : Network) (ok : IsNetwork net) where
   worth_kernel u x k =
       let long : length (worth_rows net u) ≡ count = length-map (link_numbers net) (worth_row net u) ∙ length-range_with_len 1 count in
       k.some.2 (worth_unique count net.shares (onto net ok) (outward net ok) (λ m. entry x m) (routing net ok)
-        (λ m h. move (pos net.shares *ℤ entry x m) (ahead (λ m. entry x m) m) (pos 0) (sym (worth_times u (λ m. entry x m) m h) ∙ k.solves m [] (omega (arith, long))) ∙ plus_none (ahead (λ m. entry x m) m)) k.some.0 k.some.1)
+      (λ m h. move (pos net.shares *ℤ entry x m) (ahead (λ m. entry x m) m) (pos 0) (sym (worth_times u (λ m. entry x m) m h) ∙ k.solves m [] (omega (arith, long))) ∙ plus_none (ahead (λ m. entry x m) m)) k.some.0 k.some.1)
     where
       plus_none : (t : ℤ) → t +ℤ pos 0 ≡ t
       plus_none t = omega (arith, ints)
@@ -177,9 +179,9 @@ module _ (net : Network) (ok : IsNetwork net) where
   worth_answered u x d answers l h =
       let long : length (worth_rows net u) ≡ count = length-map (link_numbers net) (worth_row net u) ∙ length-range_with_len 1 count in
       move (pos net.shares *ℤ entry x l) (ahead (λ m. entry x m) l) (d *ℤ int_entry u (1 + l))
-        (sym (worth_times u (λ m. entry x m) l h)
-         ∙ total-same count _ _ (λ j i. ap (λ t. entry (get_or (worth_rows net u) l []) j *ℤ entry x t) (omega arith))
-         ∙ answers 0 (omega arith) l [] (omega (arith, long)) ∙ ap (λ t. d *ℤ t) (worth_side net u l h))
+      (sym (worth_times u (λ m. entry x m) l h)
+      ∙ total-same count _ _ (λ j i. ap (λ t. entry (get_or (worth_rows net u) l []) j *ℤ entry x t) (omega arith))
+      ∙ answers 0 (omega arith) l [] (omega (arith, long)) ∙ ap (λ t. d *ℤ t) (worth_side net u l h))
 
   onward_column : (x : List ℤ) (to : Option ℕ) (w : ℕ) → IfSome to (λ l. has (link_numbers net) l ≡ true) → total count (λ m. pos (cond (goes_to to (1 + m)) w 0) *ℤ entry x m) ≡ pos w *ℤ onward x to
   onward_column x None w h = total-zero count (λ m. pos 0 *ℤ entry x m) (λ k _. nothing (entry x k)) ∙ sym (times_none w)
@@ -189,14 +191,14 @@ module _ (net : Network) (ok : IsNetwork net) where
   onward_column x (Some t) w h =
       let range = in_numbers count t h in
       one_column count (t - 1) (λ m. 1 + m == t) w (λ m. entry x m) (omega (arith, range)) (eq-eqb (1 + (t - 1)) t (omega (arith, range)))
-        (λ m apart. ne_eqb (1 + m) t (λ (e : 1 + m ≡ t). apart (omega (arith, e))))
+      (λ m apart. ne_eqb (1 + m) t (λ (e : 1 + m ≡ t). apart (omega (arith, e))))
 
   to_in : (l k : ℕ) → has (out_of net l) k ≡ true → IfSome (to_of net k) (λ m. has (link_numbers net) m ≡ true)
   to_in l k h = at_in (λ k. IfSome (to_of net k) (λ m. has (link_numbers net) m ≡ true)) k (movement_numbers net) (filter_sub (λ k. from_of net k == l) (movement_numbers net) k h) ok.to
 
   ahead_by_movements : (x : List ℤ) (l : ℕ) → ahead (λ m. entry x m) l ≡ int_sum_by (λ k. pos (share_of net k) *ℤ onward x (to_of net k)) (out_of net (1 + l))
   ahead_by_movements x l = spread count (λ k m. goes_to (to_of net k) (1 + m)) (share_of net) (λ m. entry x m) (λ k. onward x (to_of net k)) (out_of net (1 + l))
-    (each_in (λ k. total count (λ m. pos (cond (goes_to (to_of net k) (1 + m)) (share_of net k) 0) *ℤ entry x m) ≡ pos (share_of net k) *ℤ onward x (to_of net k)) (out_of net (1 + l))
+      (each_in (λ k. total count (λ m. pos (cond (goes_to (to_of net k) (1 + m)) (share_of net k) 0) *ℤ entry x m) ≡ pos (share_of net k) *ℤ onward x (to_of net k)) (out_of net (1 + l))
       (λ k i. onward_column x (to_of net k) (share_of net k) (to_in (1 + l) k i)))
 
   pub worths_right : (u x : List ℤ) (d : ℤ) → AllByRecursion (λ l. pos 0 ≤ℤ int_entry u l) (link_numbers net) → pos 1 ≤ℤ d → length x ≡ 1 * count → Answers count 1 (worth_rows net u) x d → AreWorths net u (record { x = x; d = d })
@@ -205,11 +207,13 @@ module _ (net : Network) (ok : IsNetwork net) where
     values = omega arith;
     balance = by_link (IsBalancedWorth net u x d) (λ l h. ap (λ t. pos net.shares *ℤ t) (int_entry-of x l) ∙ worth_answered u x d answers l h ∙ ap (λ t. t +ℤ d *ℤ int_entry u (1 + l)) (ahead_by_movements x l));
     sign = by_link (λ l. pos 0 ≤ℤ int_entry x l) (λ l h.
-      subst (λ (t : ℤ). pos 0 ≤ℤ t) (sym (int_entry-of x l))
+        subst (λ (t : ℤ). pos 0 ≤ℤ t) (sym (int_entry-of x l))
         (worth_positive count net.shares (onto net ok) (outward net ok) (λ m. entry x m) (λ m. d *ℤ int_entry u (1 + m)) (routing net ok)
-          (λ m i. positive_times d (int_entry u (1 + m)) one (sign_at m i))
-          (λ m i. worth_answered u x d answers m i) l h)) }
+        (λ m i. positive_times d (int_entry u (1 + m)) one (sign_at m i))
+        (λ m i. worth_answered u x d answers m i) l h));
+  }
     where
       sign_at : (m : ℕ) → m < count → pos 0 ≤ℤ int_entry u (1 + m)
       sign_at m i = at_range (λ l. pos 0 ≤ℤ int_entry u l) 1 count (1 + m) (omega arith) (omega arith) signs
+
 pub ruleset balances = (flow_kernel, flows_right, worth_kernel, worths_right)

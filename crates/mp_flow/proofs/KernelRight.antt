@@ -1,4 +1,4 @@
-use Rattle.std.proofs.Common.{◌≡◌, ◌≢◌, ℕ, zero, suc, ◌+◌, ◌-◌, ◌*◌, ◌<◌, ◌≤◌, List, [], ◌∷◌, length, take, drop, get_or, Option, Some, None, ℤ, pos, ◌+ℤ◌, ◌*ℤ◌, ◌≤ℤ◌, ◌<ℤ◌, refl, ap, ap₂, sym, ◌∙◌, subst, arith, inl, inr, ◌⊎◌, map, All, Bool, true, false, cond, not, nat_lt, position, remove, int_eq}
+use Rattle.std.proofs.Common.{◌≡◌, ◌≢◌, ℕ, zero, suc, ◌+◌, ◌-◌, ◌*◌, ◌<◌, ◌≤◌, List, [], length, take, drop, get_or, Option, Some, None, ℤ, pos, ◌+ℤ◌, ◌*ℤ◌, ◌≤ℤ◌, refl, ap, sym, ◌∙◌, subst, arith, inl, inr, ◌⊎◌, map, All, Bool, true, false, cond, not, nat_lt, position, int_eq}
 use Rattle.std.proofs.lemmas.Int.{ints}
 use Rattle.std.proofs.lemmas.List.{get_or-drop, length-drop, get_or-map, length-map}
 use Rattle.std.proofs.lemmas.List.Elements.{All-from_get_or, All-map}
@@ -7,16 +7,16 @@ use Rattle.std.specs.List.{position_or_len}
 use Rattle.std.proofs.lemmas.Option.{same_Some}
 use Rattle.mp_num.specs.Divisor.{reduced}
 use Rattle.mp_num.specs.Sums.{total}
-use Rattle.mp_num.specs.Passing.{each, counting}
+use Rattle.mp_num.specs.Passing.{counting}
 use Rattle.mp_num.specs.Row.{entry, applied}
 use Rattle.mp_num.proofs.SumLemmas.{total-same, total-zero, total-split}
 use Rattle.mp_num.proofs.RowLemmas.{reduced_multiple, eq_from_int_eq}
 use Rattle.mp_num.proofs.AppliedLemmas.{solves_before_reduced}
 use Rattle.mp_num.proofs.OutcomeLemmas.{each_some, length-counting, get_or-counting}
-use Rattle.mp_flow.specs.Elimination.{serves, Solves, eliminated, Elimination, StuckAt, PassedAt, Through, turn, Turn, Stuck, Passed, Turned, chosen_turn, turn_of, turned, after}
-use Rattle.mp_flow.specs.Answers.{denominator, answers, answer_at, kernel_at, kernel, solved, ended, finished, answered, stuck, kernel_found, Outcome, Answer, Kernel, Passes, IsKernel}
+use Rattle.mp_flow.specs.Elimination.{serves, Solves, eliminated, Elimination, StuckAt, PassedAt, Through, turn, Turn, Stuck, Passed, Turned, chosen_turn, turn_of, after}
+use Rattle.mp_flow.specs.Answers.{denominator, answers, answer_at, kernel_at, kernel, solved, ended, finished, answered, stuck, kernel_found, Answer, Kernel, IsKernel}
 use Rattle.mp_flow.proofs.TheoremLemmas.{solves_turn}
-use Rattle.mp_flow.proofs.DiagonalLemmas.{IsCleared, cleared_turn, cleared_eliminated, length_turn, length_eliminated}
+use Rattle.mp_flow.proofs.DiagonalLemmas.{IsCleared, cleared_turn, cleared_eliminated, length_turn}
 use Rattle.mp_flow.proofs.KernelLemmas.{kernel_here}
 use Rattle.mp_flow.proofs.SolutionLemmas.{run_denominator, ended_answer}
 use Rattle.mp_flow.proofs.SingularLemmas.{IsStuck, kernel_solves}
@@ -59,10 +59,12 @@ stuck_column : (j : ℕ) (rows : List (List ℤ)) → turn j rows ≡ Stuck → 
 unfolding turn
 stuck_column j rows e =
     let idle = idle_from_none (serves j) (drop j rows) (chosen_stuck j (take j rows) (drop j rows) _ e) in
-    record { none = λ r low inside. (let i : r - j < length (drop j rows) = omega (arith, length-drop j rows) in
-      let at : j + (r - j) ≡ r = omega arith in
-      let row : get_or (drop j rows) (r - j) [] ≡ get_or rows r [] = get_or-drop j rows (r - j) [] ∙ ap (λ n. get_or rows n []) at in
-      ap (λ s. entry s j) (sym row) ∙ zero_from_idle j (get_or (drop j rows) (r - j) []) (idle (r - j) i)) }
+    record {
+      none = λ r low inside. (let i : r - j < length (drop j rows) = omega (arith, length-drop j rows) in
+          let at : j + (r - j) ≡ r = omega arith in
+          let row : get_or (drop j rows) (r - j) [] ≡ get_or rows r [] = get_or-drop j rows (r - j) [] ∙ ap (λ n. get_or rows n []) at in
+          ap (λ s. entry s j) (sym row) ∙ zero_from_idle j (get_or (drop j rows) (r - j) []) (idle (r - j) i));
+    }
 
 -- what the rows of a stuck elimination say of the first rows
 pub record StuckRight (width last : ℕ) (rows : List (List ℤ)) (k : ℕ) (final : List (List ℤ)) : Type 0 where
@@ -77,17 +79,23 @@ pub stuck_right : (width columns j : ℕ) (rows : List (List ℤ)) (k : ℕ) (fi
 unfolding eliminated
 stuck_right width zero j rows k final l n w c e = absurd (cc)
 stuck_right width (suc columns) j rows k final l n w c e = elim (after_stuck (turn j rows) j k rows final (eliminated columns (j + 1)) e) [
-    inl here ↦
+  | inl here ↦
       (let P : ℕ → List (List ℤ) → Type 0 = λ i s. StuckRight width (j + suc columns) rows i s in
-       let at_j : StuckRight width (j + suc columns) rows j rows = record { inside = omega arith; same_length = refl; cleared = c; idle = stuck_column j rows here.0; back = λ y s. s } in
-       subst (λ (i : ℕ). P i final) here.1 (subst (λ (s : List (List ℤ)). P j s) here.2 at_j))
+      let at_j : StuckRight width (j + suc columns) rows j rows = record { inside = omega arith; same_length = refl; cleared = c; idle = stuck_column j rows here.0; back = λ y s. s } in
+      subst (λ (i : ℕ). P i final) here.1 (subst (λ (s : List (List ℤ)). P j s) here.2 at_j))
   | inr on ↦
       (let t = solves_turn width j (λ _. pos 0) rows on.0 (omega arith) w on.1 in
-       let step : j + suc columns ≡ (j + 1) + columns = omega arith in
-       let m : length on.0 ≡ length rows = length_turn j rows on.0 (omega arith) on.1 in
-       let r = stuck_right width columns (j + 1) on.0 k final (omega arith) (m ∙ n ∙ step) t.0 (cleared_turn width j rows on.0 (omega arith) (omega arith) w c on.1) on.2 in
-       record { inside = omega (arith, r.inside); same_length = r.same_length ∙ m; cleared = r.cleared; idle = r.idle;
-         back = λ y s. (solves_turn width j y rows on.0 (omega arith) w on.1).1 (r.back y s) }) ]
+      let step : j + suc columns ≡ (j + 1) + columns = omega arith in
+      let m : length on.0 ≡ length rows = length_turn j rows on.0 (omega arith) on.1 in
+      let r = stuck_right width columns (j + 1) on.0 k final (omega arith) (m ∙ n ∙ step) t.0 (cleared_turn width j rows on.0 (omega arith) (omega arith) w c on.1) on.2 in
+      record {
+        inside = omega (arith, r.inside);
+        same_length = r.same_length ∙ m;
+        cleared = r.cleared;
+        idle = r.idle;
+        back = λ y s. (solves_turn width j y rows on.0 (omega arith) w on.1).1 (r.back y s);
+      })
+]
 
 finished_apart : (n rights : ℕ) (rows : List (List ℤ)) (o : Option ℤ) (x : List ℤ) → finished n rights rows o ≡ Kernel x → ⊥
 finished_apart n rights rows None x h = cc
@@ -169,7 +177,8 @@ solved_kernel n rights rows x ln widths h =
       same_length = o.same_length ∙ length-counting n 0;
       some = (j, column, not_zero d (entry x j) (positive_denominator j final d s.cleared a.4) here);
       solves = λ k u l. sym (applied-padded n rights (get_or rows k u) x)
-        ∙ solves_before_reduced (n + rights) (padded n x) (get_or rows k u) (subst Z (get_or-map reduced rows k u u l) (at_start k u (omega (arith, length-map rows reduced)))) }
+          ∙ solves_before_reduced (n + rights) (padded n x) (get_or rows k u) (subst Z (get_or-map reduced rows k u u l) (at_start k u (omega (arith, length-map rows reduced))));
+    }
 
 -- the shape of an answer
 pub record IsShaped (n rights : ℕ) (x : List ℤ) (d : ℤ) : Type 0 where
@@ -185,4 +194,5 @@ solved_shape n rights rows x d ln widths h =
     let o = each_some (answer_at n d a.0) (counting (rights * n) 0) x a.3 in
     record {
       positive = positive_denominator n a.0 d (subst (λ (m : ℕ). IsCleared m a.0) (omega arith) c) a.2;
-      values = o.same_length ∙ length-counting (rights * n) 0 }
+      values = o.same_length ∙ length-counting (rights * n) 0;
+    }

@@ -14,3 +14,5 @@ pub mod RouteLemmas
 pub mod NetworkLemmas
 pub mod SystemLemmas
 pub mod BalanceLemmas
+pub mod RowLoopLemmas
+pub mod CalculatingLemmas

@@ -1,7 +1,7 @@
 -- One solution of each of the two systems, and none that is negative.
-use Rattle.std.proofs.Common.{◌≡◌, ◌≢◌, ℕ, zero, suc, ◌+◌, ◌-◌, ◌*◌, ◌<◌, ◌≤◌, ℤ, pos, negsuc, ◌+ℤ◌, ◌-ℤ◌, ◌*ℤ◌, neg_ℤ, ◌≤ℤ◌, ◌<ℤ◌, refl, ap, ap₂, sym, ◌∙◌, subst, arith, unsigned_abs, inl, inr, ◌⊎◌}
+use Rattle.std.proofs.Common.{◌≡◌, ℕ, zero, suc, ◌+◌, ◌*◌, ◌<◌, ◌≤◌, ℤ, pos, negsuc, ◌+ℤ◌, ◌*ℤ◌, neg_ℤ, ◌≤ℤ◌, ap, sym, ◌∙◌, arith, unsigned_abs}
 use Rattle.std.proofs.lemmas.Int.{ints, unsigned_abs-mul}
-use Rattle.mp_flow.proofs.RouteLemmas.{sum_below, WayOut, IsRouting, covered_by_inflow, covered_by_next, sum-same}
+use Rattle.mp_flow.proofs.RouteLemmas.{sum_below, IsRouting, covered_by_inflow, covered_by_next, sum-same}
 use Rattle.mp_num.specs.Sums.{total}
 
 abs_plus : (a b : ℤ) → unsigned_abs (a +ℤ b) ≤ unsigned_abs a + unsigned_abs b
@@ -59,7 +59,7 @@ pub flow_positive : (n whole : ℕ) (share : ℕ → ℕ → ℕ) (outward : ℕ
     ((m : ℕ) → m < n → pos 0 ≤ℤ b m) → ((m : ℕ) → m < n → pos whole *ℤ f m ≡ total n (λ l. pos (share l m) *ℤ f l) +ℤ b m) → (l : ℕ) → l < n → pos 0 ≤ℤ f l
 flow_positive n whole share outward f b r hb h l k =
     zero_lack (f l) (covered_by_inflow n whole share outward (λ l. lack (f l)) r
-      (λ m j. lack_covered_by whole _ (f m) _ (b m) (hb m j) (h m j) (lack_total n (λ l. share l m) f)) l k)
+    (λ m j. lack_covered_by whole _ (f m) _ (b m) (hb m j) (h m j) (lack_total n (λ l. share l m) f)) l k)
 
 -- the same of the transposed system
 pub worth_unique : (n whole : ℕ) (share : ℕ → ℕ → ℕ) (outward : ℕ → ℕ) (z : ℕ → ℤ) → IsRouting n whole share outward →
@@ -71,4 +71,4 @@ pub worth_positive : (n whole : ℕ) (share : ℕ → ℕ → ℕ) (outward : �
     ((l : ℕ) → l < n → pos 0 ≤ℤ b l) → ((l : ℕ) → l < n → pos whole *ℤ x l ≡ total n (λ m. pos (share l m) *ℤ x m) +ℤ b l) → (l : ℕ) → l < n → pos 0 ≤ℤ x l
 worth_positive n whole share outward x b r hb h l k =
     zero_lack (x l) (covered_by_next n whole share outward (λ l. lack (x l)) r
-      (λ l j. lack_covered_by whole _ (x l) _ (b l) (hb l j) (h l j) (lack_total n (share l) x)) l k)
+    (λ l j. lack_covered_by whole _ (x l) _ (b l) (hb l j) (h l j) (lack_total n (share l) x)) l k)

@@ -1,5 +1,5 @@
 -- Links that pass shares on: what is covered by what comes in, or by the mean of what is next, is 0 where every link has a way out.
-use Rattle.std.proofs.Common.{◌≡◌, ◌≢◌, ℕ, zero, suc, ◌+◌, ◌-◌, ◌*◌, ◌/◌, ◌<◌, ◌≤◌, refl, ap, ap₂, sym, ◌∙◌, subst, arith, inl, inr, ◌⊎◌, mul-le-mul_left, mul-le-mul_right, le_antisymm}
+use Rattle.std.proofs.Common.{◌≡◌, ◌≢◌, ℕ, zero, suc, ◌+◌, ◌*◌, ◌/◌, ◌<◌, ◌≤◌, refl, ap, ap₂, sym, ◌∙◌, subst, arith, inl, inr, ◌⊎◌, mul-le-mul_left}
 use Rattle.std.proofs.Math.Nat.{mul-div_cancel_left}
 use Rattle.std.proofs.lemmas.Bool.{cases_eq, cases_lt}
 
@@ -34,8 +34,9 @@ sum-tight (suc n) f g h e k l =
     let below : sum_below n f ≤ sum_below n g = sum-le n f g (λ k l. h k (omega arith)) in
     let last : f n ≤ g n = h n (omega arith) in
     elim (cases_eq k n) [
-      inl same ↦ rw same (omega arith)
-    | inr other ↦ sum-tight n f g (λ k l. h k (omega arith)) (omega arith) k (omega arith) ]
+      | inl same ↦ rw same (omega arith)
+      | inr other ↦ sum-tight n f g (λ k l. h k (omega arith)) (omega arith) k (omega arith)
+    ]
 
 pub sum-plus : (n : ℕ) (f g : ℕ → ℕ) → sum_below n (λ k. f k + g k) ≡ sum_below n f + sum_below n g
 sum-plus zero f g = refl
@@ -49,8 +50,9 @@ sum-none (suc n) = omega (arith, sum-none n)
 pub sum-one : (n j : ℕ) (f : ℕ → ℕ) → j < n → ((k : ℕ) → k < n → k ≢ j → f k ≡ 0) → sum_below n f ≡ f j
 sum-one zero j f l h = absurd (omega arith)
 sum-one (suc n) j f l h = elim (cases_eq j n) [
-    inl e ↦ rw (sym e) (omega (arith, sum-same j f (λ k. 0) (λ k l. h k (omega arith) (omega arith)), sum-none j))
-  | inr e ↦ omega (arith, sum-one n j f (omega arith) (λ k l. h k (omega arith)), h n (omega arith) (omega arith)) ]
+  | inl e ↦ rw (sym e) (omega (arith, sum-same j f (λ k. 0) (λ k l. h k (omega arith) (omega arith)), sum-none j))
+  | inr e ↦ omega (arith, sum-one n j f (omega arith) (λ k l. h k (omega arith)), h n (omega arith) (omega arith))
+]
 
 pub sum-scale : (n c : ℕ) (f : ℕ → ℕ) → sum_below n (λ k. c * f k) ≡ c * sum_below n f
 sum-scale zero c f = omega arith
@@ -93,7 +95,8 @@ tight n whole share outward u r h =
     let out_order : sum_below n outflow ≤ sum_below n weight = sum-le n outflow weight out_le in
     record {
       no_leak = λ l k. (let same : outflow l ≡ weight l = sum-tight n outflow weight out_le (omega arith) l k in omega (arith, out_of n whole share outward u r l k, same));
-      equal = λ m k. sum-tight n weight inflow h (omega arith) m k }
+      equal = λ m k. sum-tight n weight inflow h (omega arith) m k;
+    }
 
 along : (n whole : ℕ) (share : ℕ → ℕ → ℕ) (outward u : ℕ → ℕ) → IsTight n whole share outward u → (l : ℕ) → l < n → WayOut n share outward l → u l ≡ 0
 along n whole share outward u t _ h (Leaves l p) = zero_factor (outward l) (u l) p (t.no_leak l h)
@@ -116,10 +119,21 @@ greatest zero u = (0, record { bound = λ k l. absurd (omega arith); reached = i
 greatest (suc n) u =
     let g = greatest n u in
     elim (cases_lt g.0 (u n)) [
-      inl more ↦ (u n, record { bound = λ k l. (elim (cases_eq k n) [ inl same ↦ rw same (omega arith) | inr other ↦ omega (arith, g.1.bound k (omega arith)) ]);
-                                reached = inr (n, omega arith, refl) })
-    | inr less ↦ (g.0, record { bound = λ k l. (elim (cases_eq k n) [ inl same ↦ rw same less | inr other ↦ g.1.bound k (omega arith) ]);
-                                reached = elim g.1.reached [ inl none ↦ inl none | inr at ↦ inr (at.0, omega (arith, at.1), at.2) ] }) ]
+      | inl more ↦ (
+        u n,
+        record {
+          bound = λ k l. (elim (cases_eq k n) [ inl same ↦ rw same (omega arith) | inr other ↦ omega (arith, g.1.bound k (omega arith)) ]);
+          reached = inr (n, omega arith, refl);
+        },
+      )
+      | inr less ↦ (
+        g.0,
+        record {
+          bound = λ k l. (elim (cases_eq k n) [ inl same ↦ rw same less | inr other ↦ g.1.bound k (omega arith) ]);
+          reached = elim g.1.reached [ inl none ↦ inl none | inr at ↦ inr (at.0, omega (arith, at.1), at.2) ];
+        },
+      )
+    ]
 
 mul_cancel : (a b c : ℕ) → 0 < a → a * b ≡ a * c → b ≡ c
 mul_cancel a b c h e = sym (mul-div_cancel_left b h) ∙ ap (λ x. x / a) e ∙ mul-div_cancel_left c h

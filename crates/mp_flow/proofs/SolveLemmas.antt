@@ -70,7 +70,6 @@ pub solved_through : (n rights : ℕ) (rows before now : List (List ℤ)) → be
 unfolding solved
 solved_through n rights rows before now b e = rw (← b, e) refl
 
-
 -- what a result of the calculation means, whatever it is
 pub answers_right : (n rights : ℕ) (cells : List ℤ) (r : Result Solved SolveFault) → length cells ≡ n * (n + rights) → Meets r (solved n rights (rows_of n (n + rights) cells)) →
     IfOk r (λ s. Answers n rights (rows_of n (n + rights) cells) s.x s.d)

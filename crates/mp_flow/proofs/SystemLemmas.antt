@@ -1,25 +1,21 @@
 -- From the rows of a network's systems to its links and movements.
-use Rattle.std.proofs.Common.{◌≡◌, ◌≢◌, ◌==◌, ◌||◌, ℕ, zero, suc, ◌+◌, ◌-◌, ◌*◌, ◌<◌, ◌≤◌, Bool, true, false, cond, List, [], ◌∷◌, ◌++◌, length, map, filter, sum_by, get_or, take, drop, Option, Some, None, is_none, ℤ, pos, ◌+ℤ◌, ◌-ℤ◌, ◌*ℤ◌, ◌≤ℤ◌, refl, ap, ap₂, sym, ◌∙◌, subst, arith, All, eq-eqb, eqb-true, ne_eqb}
+use Rattle.std.proofs.Common.{◌≡◌, ◌≢◌, ◌==◌, ◌||◌, ℕ, zero, suc, ◌+◌, ◌-◌, ◌*◌, ◌<◌, ◌≤◌, Bool, true, false, cond, List, [], ◌∷◌, ◌++◌, length, map, filter, sum_by, get_or, Option, Some, None, is_none, ℤ, pos, ◌-ℤ◌, ◌*ℤ◌, refl, ap, ap₂, sym, ◌∙◌, subst, arith, eq-eqb, eqb-true, ne_eqb}
 use Rattle.std.specs.Prelude.{IfSome}
 use Rattle.std.specs.List.{AllByRecursion, range_with_len}
 use Rattle.std.proofs.lemmas.Int.{ints}
 use Rattle.std.proofs.lemmas.List.{get_or_append_left, get_or-append-add, length-map}
 use Rattle.std.proofs.lemmas.List.FromFn.{length-range_with_len, get_or-map-range_with_len}
 use Rattle.std.proofs.lemmas.List.Sums.{sum_by-cons}
-use Rattle.mp_model.specs.Sums.{int_sum_by}
 use Rattle.mp_model.specs.Network.{Network, link_numbers, movement_numbers, numbers_to, link_at, from_of, to_of, share_of, into_link, out_of, goes_to, goes_out, has}
 use Rattle.mp_model.specs.NetworkRules.{IsNetwork}
 use Rattle.mp_model.specs.WayOut.{LeadsOut, HasWayOut}
 use Rattle.mp_model.specs.Certificate.{int_entry}
-use Rattle.mp_laws.proofs.Sums.{sum_by-same_at, sum_by-zero}
 use Rattle.mp_laws.proofs.Drift.{at_in, each_in, all_in}
 use Rattle.mp_laws.proofs.Bridge.{filter_sub}
-use Rattle.mp_laws.proofs.Order.{filter_has}
 use Rattle.mp_laws.proofs.Greatest.{in_numbers, at_range}
-use Rattle.mp_laws.proofs.Serve.{there}
 use Rattle.mp_num.specs.Sums.{total}
 use Rattle.mp_num.specs.Row.{entry}
-use Rattle.mp_num.proofs.SumLemmas.{total-same, total-one, total-zero, total-plus}
+use Rattle.mp_num.proofs.SumLemmas.{total-same, total-one}
 use Rattle.mp_num.proofs.Ring.{diff_of, differences, diff-eq}
 use Rattle.mp_flow.specs.Systems.{share_from, share_to, flow_cell, flow_row, flow_rows, worth_cell, worth_row, worth_rows}
 use Rattle.mp_flow.proofs.RouteLemmas.{sum_below, WayOut, Leaves, Goes, IsRouting, sum-none, sum-plus, sum-same, sum-one}
@@ -117,7 +113,7 @@ counted_all to w n [] h = omega (arith, sum-none n)
 counted_all to w n (k ∷ ks) h =
     let at : ℕ → ℕ → ℕ = λ k m. cond (goes_to (to k) (1 + m)) (w k) 0 in
     let parts : sum_below n (λ m. sum_by (λ k. at k m) (k ∷ ks)) ≡ sum_below n (at k) + sum_below n (λ m. sum_by (λ k. at k m) ks) =
-        sum-same n _ _ (λ m _. sum_by-cons (λ k. at k m) k ks) ∙ sum-plus n (at k) (λ m. sum_by (λ k. at k m) ks) in
+    sum-same n _ _ (λ m _. sum_by-cons (λ k. at k m) k ks) ∙ sum-plus n (at k) (λ m. sum_by (λ k. at k m) ks) in
     omega (arith, parts, counted_target (to k) n (w k) h.0, counted_all to w n ks h.1, sum_by-cons (λ k. cond (is_none (to k)) (w k) 0) k ks, sum_by-cons w k ks)
 
 le_sum : (f : ℕ → ℕ) (x : ℕ) (ks : List ℕ) → has ks x ≡ true → f x ≤ sum_by f ks
@@ -185,5 +181,5 @@ module _ (net : Network) (ok : IsNetwork net) where
     positive = ok.shares;
     all_shares = all_shares;
     way_out = λ l h. (let w = at_in (HasWayOut net) (1 + l) (link_numbers net) (number_in l h) ok.way_out in
-      subst (λ (i : ℕ). WayOut count onto outward i) (omega arith) (way w.0 (1 + l) (omega arith) w.1)) }
-
+        subst (λ (i : ℕ). WayOut count onto outward i) (omega arith) (way w.0 (1 + l) (omega arith) w.1));
+  }

@@ -3,3 +3,4 @@ pub mod Columns
 pub mod Answers
 pub mod Meeting
 pub mod Systems
+pub mod Calculating

@@ -1,5 +1,5 @@
 -- The two linear systems of a network: one gives the flows of its links, and its transpose what a vehicle on each link is worth.
-use Rattle.std.specs.Prelude.{◌≡◌, ◌==◌, ℕ, ◌*◌, cond, List, [], ◌∷◌, ◌++◌, length, map, sum_by, All, Option, Some, None, ℤ, pos, ◌+ℤ◌, ◌-ℤ◌, ◌*ℤ◌, ◌≤ℤ◌, take, drop}
+use Rattle.std.specs.Prelude.{◌≡◌, ◌==◌, ℕ, ◌*◌, cond, List, [], ◌∷◌, ◌++◌, length, map, sum_by, Option, Some, None, ℤ, pos, ◌+ℤ◌, ◌-ℤ◌, ◌*ℤ◌, ◌≤ℤ◌, take, drop}
 use Rattle.std.specs.List.{AllByRecursion}
 use Rattle.mp_model.specs.Sums.{int_sum_by}
 use Rattle.mp_model.specs.Network.{Network, link_numbers, link_at, from_of, to_of, share_of, into_link, out_of, goes_to}

@@ -2,10 +2,9 @@
 #![tactic(auto)]
 
 mod elimination;
+mod network;
+mod network_rows;
 mod solving;
 
+pub use crate::network::{CalcFault, Flow, FlowPair, Place, adjoint, flows};
 pub use crate::solving::{Rows, SolveFault, Solved, solve};
-
-#[tactic(auto, using(crate::proofs::BalanceLemmas::balances))]
-fn dummy() {
-}

@@ -172,7 +172,12 @@ fn through_answer(
 
 /// Solves the system whose rows stand one after another in the cells.
 #[tactic(auto, using(crate::proofs::SolveLemmas::solving))]
-fn solve_cells(alloc: Global, cells: &mut [i128], n: usize, rights: usize) -> Result<Solved, SolveFault>
+fn solve_cells(
+    alloc: Global,
+    cells: &mut [i128],
+    n: usize,
+    rights: usize,
+) -> Result<Solved, SolveFault>
     requires some { 0 < n }
     requires size { length cells.old ≡ n * (n + rights) }
     requires width { n + rights < 2 ^ 64 }
