@@ -4,6 +4,7 @@ use Rattle.std.specs.Prelude.{IfSome}
 use Rattle.std.specs.List.{AllByRecursion}
 use Rattle.std.proofs.lemmas.Int.{ints}
 use Rattle.std.proofs.lemmas.List.{get_or-take, get_or-drop, length-map}
+use Rattle.std.proofs.lemmas.List.Elements.{All-from_get_or}
 use Rattle.std.proofs.lemmas.List.FromFn.{length-range_with_len}
 use Rattle.std.proofs.lemmas.List.Sums.{sum_by-cons}
 use Rattle.mp_model.specs.Sums.{int_sum_by}
@@ -129,15 +130,16 @@ module _ (net : Network) (ok : IsNetwork net) where
   flow_balanced f d b a = by_link (λ l. IsBalancedFlow net f d (b l) l) (λ l h.
       ap (λ t. pos net.shares *ℤ t) (int_entry-of f l) ∙ a.at l h ∙ ap (λ t. t +ℤ d *ℤ pos (b (1 + l))) (inflow_by_movements f l))
 
-  flow_signs : (f : List ℤ) (d : ℤ) (b : ℕ → ℕ) → pos 1 ≤ℤ d → FlowAnswered f d b → AllByRecursion (λ l. pos 0 ≤ℤ int_entry f l) (link_numbers net)
-  flow_signs f d b one a = by_link (λ l. pos 0 ≤ℤ int_entry f l) (λ l h.
-      subst (λ (t : ℤ). pos 0 ≤ℤ t) (sym (int_entry-of f l))
-      (flow_positive count net.shares (onto net ok) (outward net ok) (λ m. entry f m) (λ m. d *ℤ pos (b (1 + m))) (routing net ok)
-      (λ m _. positive_times d (pos (b (1 + m))) one (omega (arith, ints)))
-      (λ m i. a.at m i ∙ ap (λ t. t +ℤ d *ℤ pos (b (1 + m))) (flow_turn (λ m. entry f m) m)) l h))
+  flow_signs : (f : List ℤ) (d : ℤ) (b : ℕ → ℕ) → length f ≡ count → pos 1 ≤ℤ d → FlowAnswered f d b → All (λ v. pos 0 ≤ℤ v) f
+  flow_signs f d b long one a = All-from_get_or (λ v. pos 0 ≤ℤ v) f (pos 0) (λ l h.
+      flow_positive count net.shares (onto net ok) (outward net ok) (λ m. entry f m) (λ m. d *ℤ pos (b (1 + m))) (routing net ok)
+        (λ m _. positive_times d (pos (b (1 + m))) one (omega (arith, ints)))
+        (λ m i. a.at m i ∙ ap (λ t. t +ℤ d *ℤ pos (b (1 + m))) (flow_turn (λ m. entry f m) m)) l (omega (arith, long)))
 
   pub flows_right : (x : List ℤ) (d : ℤ) → pos 1 ≤ℤ d → length x ≡ 2 * count → Answers count 2 (flow_rows net) x d → AreFlows net (record { rate = take count x; unit = drop count x; d = d })
   flows_right x d one long answers =
+      let rates : length (take count x) ≡ count = length-take-le count x (omega arith) in
+      let units : length (drop count x) ≡ count = length-drop count x ∙ omega arith in
       let rate : FlowAnswered (take count x) d (λ l. net.shares * (link_at net l).rate) =
       flow_answered x (take count x) d 0 (λ l. net.shares * (link_at net l).rate)
       (λ m h. ap (λ i. entry x i) (omega arith) ∙ sym (get_or-take count x m (pos 0) h)) (λ l h. flow_side net l 0 h) (answers 0 (omega arith)) in
@@ -146,12 +148,12 @@ module _ (net : Network) (ok : IsNetwork net) where
       (λ m h. ap (λ i. entry x i) (omega arith) ∙ sym (get_or-drop count x m (pos 0))) (λ l h. flow_side net l 1 h) (answers 1 (omega arith)) in
       record {
         denominator = one;
-        rates = length-take-le count x (omega arith);
-        units = length-drop count x ∙ omega arith;
+        rates = rates;
+        units = units;
         rate_balance = flow_balanced (take count x) d (λ l. net.shares * (link_at net l).rate) rate;
         unit_balance = flow_balanced (drop count x) d (λ l. net.shares * length (into_link net l)) unit;
-        rate_sign = flow_signs (take count x) d (λ l. net.shares * (link_at net l).rate) one rate;
-        unit_sign = flow_signs (drop count x) d (λ l. net.shares * length (into_link net l)) one unit;
+        rate_sign = flow_signs (take count x) d (λ l. net.shares * (link_at net l).rate) rates one rate;
+        unit_sign = flow_signs (drop count x) d (λ l. net.shares * length (into_link net l)) units one unit;
       }
 
   -- ---- the worths
@@ -201,19 +203,17 @@ module _ (net : Network) (ok : IsNetwork net) where
       (each_in (λ k. total count (λ m. pos (cond (goes_to (to_of net k) (1 + m)) (share_of net k) 0) *ℤ entry x m) ≡ pos (share_of net k) *ℤ onward x (to_of net k)) (out_of net (1 + l))
       (λ k i. onward_column x (to_of net k) (share_of net k) (to_in (1 + l) k i)))
 
-  pub worths_right : (u x : List ℤ) (d : ℤ) → AllByRecursion (λ l. pos 0 ≤ℤ int_entry u l) (link_numbers net) → pos 1 ≤ℤ d → length x ≡ 1 * count → Answers count 1 (worth_rows net u) x d → AreWorths net u (record { x = x; d = d })
-  worths_right u x d signs one long answers = record {
+  pub worths_right : (u x : List ℤ) (d : ℤ) → length u ≡ count → All (λ v. pos 0 ≤ℤ v) u → pos 1 ≤ℤ d → length x ≡ 1 * count → Answers count 1 (worth_rows net u) x d → AreWorths net u (record { x = x; d = d })
+  worths_right u x d fits signs one long answers = record {
     denominator = one;
     values = omega arith;
     balance = by_link (IsBalancedWorth net u x d) (λ l h. ap (λ t. pos net.shares *ℤ t) (int_entry-of x l) ∙ worth_answered u x d answers l h ∙ ap (λ t. t +ℤ d *ℤ int_entry u (1 + l)) (ahead_by_movements x l));
-    sign = by_link (λ l. pos 0 ≤ℤ int_entry x l) (λ l h.
-        subst (λ (t : ℤ). pos 0 ≤ℤ t) (sym (int_entry-of x l))
-        (worth_positive count net.shares (onto net ok) (outward net ok) (λ m. entry x m) (λ m. d *ℤ int_entry u (1 + m)) (routing net ok)
+    sign = All-from_get_or (λ v. pos 0 ≤ℤ v) x (pos 0) (λ l h.
+      worth_positive count net.shares (onto net ok) (outward net ok) (λ m. entry x m) (λ m. d *ℤ int_entry u (1 + m)) (routing net ok)
         (λ m i. positive_times d (int_entry u (1 + m)) one (sign_at m i))
-        (λ m i. worth_answered u x d answers m i) l h));
-  }
+        (λ m i. worth_answered u x d answers m i) l (omega (arith, long))) }
     where
       sign_at : (m : ℕ) → m < count → pos 0 ≤ℤ int_entry u (1 + m)
-      sign_at m i = at_range (λ l. pos 0 ≤ℤ int_entry u l) 1 count (1 + m) (omega arith) (omega arith) signs
+      sign_at m i = subst (λ (t : ℤ). pos 0 ≤ℤ t) (sym (int_entry-of u m)) (signs m (pos 0) (omega (arith, fits)))
 
 pub ruleset balances = (flow_kernel, flows_right, worth_kernel, worths_right)

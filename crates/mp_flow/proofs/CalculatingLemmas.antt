@@ -1,5 +1,5 @@
 -- The results of solving a network's systems.
-use Rattle.std.proofs.Common.{◌≡◌, ℕ, ◌+◌, ◌*◌, List, length, take, drop, Some, Result, Ok, Err, ℤ, pos, ◌≤ℤ◌, refl, ap, ap₂, sym, ◌∙◌, subst, inl, inr}
+use Rattle.std.proofs.Common.{◌≡◌, ℕ, ◌+◌, ◌*◌, List, length, take, drop, Some, Result, Ok, Err, ℤ, pos, ◌≤ℤ◌, refl, ap, ap₂, sym, ◌∙◌, subst, inl, inr, All}
 use Rattle.std.specs.Prelude.{IfOk}
 use Rattle.std.specs.List.{AllByRecursion}
 use Rattle.mp_model.specs.Network.{Network, link_numbers}
@@ -93,8 +93,8 @@ pub worths_stated : (net : Network) (u : List ℤ) (s : Solved) (f : FlowList) �
 unfolding stated_worths
 worths_stated net u s f a ex ed = ap worths_from a.stated ∙ ap₂ (λ x d. Some (record { x = x; d = d })) (sym ex) (sym ed)
 
-pub worths_balance : (net : Network) (u : List ℤ) (s : Solved) → IsNetwork net → AllByRecursion (λ l. pos 0 ≤ℤ int_entry u l) (link_numbers net) → IsAnswer (length net.links) 1 (worth_rows net u) s → AreWorths net u (record { x = s.x; d = s.d })
-worths_balance net u s ok signs a = worths_right net ok u s.x s.d signs a.positive a.values a.answers
+pub worths_balance : (net : Network) (u : List ℤ) (s : Solved) → IsNetwork net → length u ≡ length net.links → All (λ v. pos 0 ≤ℤ v) u → IsAnswer (length net.links) 1 (worth_rows net u) s → AreWorths net u (record { x = s.x; d = s.d })
+worths_balance net u s ok fits signs a = worths_right net ok u s.x s.d fits signs a.positive a.values a.answers
 
 pub worths_refused : (net : Network) (u : List ℤ) (fault : CalcFault) → AnsweredAt Adjoint (length net.links) 1 (worth_rows net u) (Err fault) → Gives Adjoint worths_of (Err fault) (stated_worths net u)
 unfolding stated_worths

@@ -1,5 +1,5 @@
 -- The two linear systems of a network: one gives the flows of its links, and its transpose what a vehicle on each link is worth.
-use Rattle.std.specs.Prelude.{◌≡◌, ◌==◌, ℕ, ◌*◌, cond, List, [], ◌∷◌, ◌++◌, length, map, sum_by, Option, Some, None, ℤ, pos, ◌+ℤ◌, ◌-ℤ◌, ◌*ℤ◌, ◌≤ℤ◌, take, drop}
+use Rattle.std.specs.Prelude.{All, ◌≡◌, ◌==◌, ℕ, ◌*◌, cond, List, [], ◌∷◌, ◌++◌, length, map, sum_by, Option, Some, None, ℤ, pos, ◌+ℤ◌, ◌-ℤ◌, ◌*ℤ◌, ◌≤ℤ◌, take, drop}
 use Rattle.std.specs.List.{AllByRecursion}
 use Rattle.mp_model.specs.Sums.{int_sum_by}
 use Rattle.mp_model.specs.Network.{Network, link_numbers, link_at, from_of, to_of, share_of, into_link, out_of, goes_to}
@@ -81,8 +81,8 @@ pub record AreFlows (net : Network) (flows : Flows) : Type 0 where
   pub units : length flows.unit ≡ length net.links
   pub rate_balance : AllByRecursion (λ l. IsBalancedFlow net flows.rate flows.d (net.shares * (link_at net l).rate) l) (link_numbers net)
   pub unit_balance : AllByRecursion (λ l. IsBalancedFlow net flows.unit flows.d (net.shares * length (into_link net l)) l) (link_numbers net)
-  pub rate_sign : AllByRecursion (λ l. pos 0 ≤ℤ int_entry flows.rate l) (link_numbers net)
-  pub unit_sign : AllByRecursion (λ l. pos 0 ≤ℤ int_entry flows.unit l) (link_numbers net)
+  pub rate_sign : All (λ v. pos 0 ≤ℤ v) flows.rate
+  pub unit_sign : All (λ v. pos 0 ≤ℤ v) flows.unit
 
 -- This is the number at the link that a movement goes to, and 0 where it leaves the network.
 abbrev pub onward : List ℤ → Option ℕ → ℤ
@@ -99,4 +99,4 @@ pub record AreWorths (net : Network) (u : List ℤ) (worths : Worths) : Type 0 w
   pub denominator : pos 1 ≤ℤ worths.d
   pub values : length worths.x ≡ length net.links
   pub balance : AllByRecursion (IsBalancedWorth net u worths.x worths.d) (link_numbers net)
-  pub sign : AllByRecursion (λ l. pos 0 ≤ℤ int_entry worths.x l) (link_numbers net)
+  pub sign : All (λ v. pos 0 ≤ℤ v) worths.x

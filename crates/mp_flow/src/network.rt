@@ -1,9 +1,6 @@
 //! The flows of a network's links, and what a vehicle on each link is worth.
-ghost use Rattle.std.specs.Prelude.{◌≡◌, ◌+◌, ◌*◌, ◌<◌, ◌≤ℤ◌, pos, length, vec_len, IfOk};
-ghost use Rattle.std.specs.List.{AllByRecursion};
-ghost use Rattle.mp_model.specs.Network.{link_numbers};
+ghost use Rattle.std.specs.Prelude.{◌≡◌, ◌+◌, ◌*◌, ◌<◌, ◌≤ℤ◌, pos, length, vec_len, IfOk, All};
 ghost use Rattle.mp_model.specs.NetworkRules.{IsNetwork};
-ghost use Rattle.mp_model.specs.Certificate.{int_entry};
 ghost use Rattle.mp_flow.specs.Meeting.{IfSingular};
 ghost use Rattle.mp_flow.specs.Calculating.{IsMoved, Gives, flows_of, worths_of, Splits, list_of, IsRegular, AnsweredAt};
 ghost use Rattle.mp_flow.specs.Systems.{stated_flows, AreFlows, stated_worths, AreWorths};
@@ -147,7 +144,7 @@ pub fn flows(alloc: Global, net: &Net) -> Result<FlowPair, CalcFault>
 #[tactic(auto, using(crate::proofs::CalculatingLemmas::calculating))]
 pub fn adjoint(alloc: Global, net: &Net, u: &[i128]) -> Result<Flow, CalcFault>
     requires values { length u.now ≡ length net.now.links }
-    requires signs { AllByRecursion (λ l. pos 0 ≤ℤ int_entry u.now l) (link_numbers net.now) }
+    requires signs { All (λ v. pos 0 ≤ℤ v) u.now }
     ensures calculation { Gives Place.Adjoint worths_of result (stated_worths net.now u.now) }
     ensures balance { IfOk result (λ f. AreWorths net.now u.now (worths_of f)) }
 {

@@ -216,3 +216,6 @@ pub fn solve(alloc: Global, rows: &mut Rows) -> Result<Solved, SolveFault>
 {
     solve_cells(alloc, rows.cells.as_mut_slice(), rows.n, rows.rights)
 }
+
+#[cfg(test)]
+mod tests;
