@@ -5,12 +5,10 @@ use Rattle.std.proofs.lemmas.List.{append-nil, length-append, length-map}
 use Rattle.std.proofs.lemmas.List.Sums.{sum_by_more}
 use Rattle.std.proofs.lemmas.List.FromFn.{length-range_with_len, map-range_with_len_more}
 use Rattle.mp_model.specs.Network.{Network, link_numbers, movement_numbers, from_of, to_of, into_link, out_of, goes_to, has}
+use Rattle.mp_laws.proofs.Lists.{all_in, filter_sub, in_numbers}
 use Rattle.mp_num.specs.Row.{rows_of}
 use Rattle.mp_num.proofs.TableLemmas.{rows_of-append}
 use Rattle.mp_flow.specs.Systems.{flow_cell, flow_row, flow_rows, worth_cell, worth_row, worth_rows}
-use Rattle.mp_laws.proofs.Drift.{all_in}
-use Rattle.mp_laws.proofs.Bridge.{filter_sub}
-use Rattle.mp_laws.proofs.Greatest.{in_numbers}
 
 -- a sum of numbers below 2^32 over the first entries of a list
 pub record Summing (f : ℕ → ℕ) (xs : List ℕ) (i sum : ℕ) : Type 0 where

@@ -10,9 +10,7 @@ use Rattle.mp_model.specs.Network.{Network, link_numbers, movement_numbers, numb
 use Rattle.mp_model.specs.NetworkRules.{IsNetwork}
 use Rattle.mp_model.specs.WayOut.{LeadsOut, HasWayOut}
 use Rattle.mp_model.specs.Certificate.{int_entry}
-use Rattle.mp_laws.proofs.Drift.{at_in, each_in, all_in}
-use Rattle.mp_laws.proofs.Bridge.{filter_sub}
-use Rattle.mp_laws.proofs.Greatest.{in_numbers, at_range}
+use Rattle.mp_laws.proofs.Lists.{at_in, each_in, all_in, filter_sub, in_numbers, at_range}
 use Rattle.mp_num.specs.Sums.{total}
 use Rattle.mp_num.specs.Row.{entry}
 use Rattle.mp_num.proofs.SumLemmas.{total-same, total-one}
