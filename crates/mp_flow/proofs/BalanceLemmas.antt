@@ -131,8 +131,8 @@ module _ (net : Network) (ok : IsNetwork net) where
   flow_signs : (f : List ℤ) (d : ℤ) (b : ℕ → ℕ) → length f ≡ count → pos 1 ≤ℤ d → FlowAnswered f d b → All (λ v. pos 0 ≤ℤ v) f
   flow_signs f d b long one a = All-from_get_or (λ v. pos 0 ≤ℤ v) f (pos 0) (λ l h.
       flow_positive count net.shares (onto net ok) (outward net ok) (λ m. entry f m) (λ m. d *ℤ pos (b (1 + m))) (routing net ok)
-        (λ m _. positive_times d (pos (b (1 + m))) one (omega (arith, ints)))
-        (λ m i. a.at m i ∙ ap (λ t. t +ℤ d *ℤ pos (b (1 + m))) (flow_turn (λ m. entry f m) m)) l (omega (arith, long)))
+      (λ m _. positive_times d (pos (b (1 + m))) one (omega (arith, ints)))
+      (λ m i. a.at m i ∙ ap (λ t. t +ℤ d *ℤ pos (b (1 + m))) (flow_turn (λ m. entry f m) m)) l (omega (arith, long)))
 
   pub flows_right : (x : List ℤ) (d : ℤ) → pos 1 ≤ℤ d → length x ≡ 2 * count → Answers count 2 (flow_rows net) x d → AreFlows net (record { rate = take count x; unit = drop count x; d = d })
   flows_right x d one long answers =
@@ -207,9 +207,10 @@ module _ (net : Network) (ok : IsNetwork net) where
     values = omega arith;
     balance = by_link (IsBalancedWorth net u x d) (λ l h. ap (λ t. pos net.shares *ℤ t) (int_entry-of x l) ∙ worth_answered u x d answers l h ∙ ap (λ t. t +ℤ d *ℤ int_entry u (1 + l)) (ahead_by_movements x l));
     sign = All-from_get_or (λ v. pos 0 ≤ℤ v) x (pos 0) (λ l h.
-      worth_positive count net.shares (onto net ok) (outward net ok) (λ m. entry x m) (λ m. d *ℤ int_entry u (1 + m)) (routing net ok)
+        worth_positive count net.shares (onto net ok) (outward net ok) (λ m. entry x m) (λ m. d *ℤ int_entry u (1 + m)) (routing net ok)
         (λ m i. positive_times d (int_entry u (1 + m)) one (sign_at m i))
-        (λ m i. worth_answered u x d answers m i) l (omega (arith, long))) }
+        (λ m i. worth_answered u x d answers m i) l (omega (arith, long)));
+  }
     where
       sign_at : (m : ℕ) → m < count → pos 0 ≤ℤ int_entry u (1 + m)
       sign_at m i = subst (λ (t : ℤ). pos 0 ≤ℤ t) (sym (int_entry-of u m)) (signs m (pos 0) (omega (arith, fits)))

@@ -157,3 +157,6 @@ pub fn adjoint(alloc: Global, net: &Net, u: &[i128]) -> Result<Flow, CalcFault>
         Err(fault) => Err(fault),
     }
 }
+
+#[cfg(test)]
+mod tests;
