@@ -17,8 +17,8 @@ use Rattle.mp_num.specs.Row.{entry}
 use Rattle.mp_num.proofs.SumLemmas.{total-same, total-one, total-zero, total-plus}
 use Rattle.mp_num.proofs.Ring.{diff_of, differences, diff-eq}
 use Rattle.mp_flow.specs.Answers.{RowAnswered, Answers, IsKernel}
-use Rattle.mp_flow.specs.Systems.{share_from, flow_cell, flow_row, flow_rows, worth_cell, worth_row, worth_rows, IsBalancedFlow, AreFlows, onward, IsBalancedWorth, AreWorths}
-use Rattle.mp_flow.proofs.NetworkLemmas.{flow_unique, flow_positive, worth_unique, worth_positive}
+use Rattle.mp_flow.specs.Systems.{share_from, flow_cell, flow_row, flow_rows, worth_cell, worth_row, worth_rows, IsBalancedFlow, AreFlows, onward, IsBalancedWorth, AreWorths, AreOnlyFlows, AreOnlyWorths, Flows, Worths}
+use Rattle.mp_flow.proofs.NetworkLemmas.{flow_unique, flow_positive, flow_one, worth_unique, worth_positive, worth_one}
 use Rattle.mp_flow.proofs.SystemLemmas.{row_times, flow_entry, flow_side, worth_entry, worth_side, share_from_to, onto, outward, routing}
 
 nothing : (z : ℤ) → pos 0 *ℤ z ≡ pos 0
@@ -214,5 +214,42 @@ module _ (net : Network) (ok : IsNetwork net) where
     where
       sign_at : (m : ℕ) → m < count → pos 0 ≤ℤ int_entry u (1 + m)
       sign_at m i = subst (λ (t : ℤ). pos 0 ≤ℤ t) (sym (int_entry-of u m)) (signs m (pos 0) (omega (arith, fits)))
+
+  -- ---- one solution of each
+  at_link : (P : ℕ → Type 0) → AllByRecursion P (link_numbers net) → (l : ℕ) → l < count → P (1 + l)
+  at_link P all l h = at_range P 1 count (1 + l) (omega arith) (omega arith) all
+
+  flow_row_of : (f : List ℤ) (d : ℤ) (b : ℕ → ℕ) → AllByRecursion (λ l. IsBalancedFlow net f d (b l) l) (link_numbers net) → (m : ℕ) → m < count →
+      pos net.shares *ℤ entry f m ≡ total count (λ l. pos (onto net ok l m) *ℤ entry f l) +ℤ d *ℤ pos (b (1 + m))
+  flow_row_of f d b all m h =
+      ap (λ t. pos net.shares *ℤ t) (sym (int_entry-of f m)) ∙ at_link (λ l. IsBalancedFlow net f d (b l) l) all m h
+      ∙ ap (λ t. t +ℤ d *ℤ pos (b (1 + m))) (sym (inflow_by_movements f m) ∙ flow_turn (λ m. entry f m) m)
+
+  one_flow : (f g : List ℤ) (d e : ℤ) (b : ℕ → ℕ) → AllByRecursion (λ l. IsBalancedFlow net f d (b l) l) (link_numbers net) → AllByRecursion (λ l. IsBalancedFlow net g e (b l) l) (link_numbers net) →
+      AllByRecursion (λ l. e *ℤ int_entry f l ≡ d *ℤ int_entry g l) (link_numbers net)
+  one_flow f g d e b hf hg = by_link (λ l. e *ℤ int_entry f l ≡ d *ℤ int_entry g l) (λ l h.
+      ap (λ t. e *ℤ t) (int_entry-of f l)
+      ∙ flow_one count net.shares (onto net ok) (outward net ok) (λ m. entry f m) (λ m. entry g m) (λ m. pos (b (1 + m))) d e (routing net ok) (flow_row_of f d b hf) (flow_row_of g e b hg) l h
+      ∙ ap (λ t. d *ℤ t) (sym (int_entry-of g l)))
+
+  pub flows_only : (flows : Flows) → AreFlows net flows → AreOnlyFlows net flows
+  flows_only flows a = record {
+    rates = λ f d h. one_flow f flows.rate d flows.d (λ l. net.shares * (link_at net l).rate) h a.rate_balance;
+    units = λ f d h. one_flow f flows.unit d flows.d (λ l. net.shares * length (into_link net l)) h a.unit_balance;
+  }
+
+  worth_row_of : (u x : List ℤ) (d : ℤ) → AllByRecursion (IsBalancedWorth net u x d) (link_numbers net) → (l : ℕ) → l < count →
+      pos net.shares *ℤ entry x l ≡ total count (λ m. pos (onto net ok l m) *ℤ entry x m) +ℤ d *ℤ int_entry u (1 + l)
+  worth_row_of u x d all l h =
+      ap (λ t. pos net.shares *ℤ t) (sym (int_entry-of x l)) ∙ at_link (IsBalancedWorth net u x d) all l h
+      ∙ ap (λ t. t +ℤ d *ℤ int_entry u (1 + l)) (sym (ahead_by_movements x l))
+
+  pub worths_only : (u : List ℤ) (worths : Worths) → AreWorths net u worths → AreOnlyWorths net u worths
+  worths_only u worths a = record {
+    values = λ x d h. by_link (λ l. worths.d *ℤ int_entry x l ≡ d *ℤ int_entry worths.x l) (λ l i.
+        ap (λ t. worths.d *ℤ t) (int_entry-of x l)
+        ∙ worth_one count net.shares (onto net ok) (outward net ok) (λ m. entry x m) (λ m. entry worths.x m) (λ m. int_entry u (1 + m)) d worths.d (routing net ok) (worth_row_of u x d h) (worth_row_of u worths.x worths.d a.balance) l i
+        ∙ ap (λ t. d *ℤ t) (sym (int_entry-of worths.x l)));
+  }
 
 pub ruleset balances = (flow_kernel, flows_right, worth_kernel, worths_right)

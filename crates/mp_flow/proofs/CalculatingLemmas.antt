@@ -1,10 +1,8 @@
 -- The results of solving a network's systems.
 use Rattle.std.proofs.Common.{◌≡◌, ℕ, ◌+◌, ◌*◌, List, length, take, drop, Some, Result, Ok, Err, ℤ, pos, ◌≤ℤ◌, refl, ap, ap₂, sym, ◌∙◌, subst, inl, inr, All}
 use Rattle.std.specs.Prelude.{IfOk}
-use Rattle.std.specs.List.{AllByRecursion}
-use Rattle.mp_model.specs.Network.{Network, link_numbers}
+use Rattle.mp_model.specs.Network.{Network}
 use Rattle.mp_model.specs.NetworkRules.{IsNetwork}
-use Rattle.mp_model.specs.Certificate.{int_entry}
 use Rattle.mp_num.specs.Row.{rows_of}
 use Rattle.mp_flow.specs.declared.solving.Rows.{Rows}
 use Rattle.mp_flow.specs.declared.solving.Solved.{Solved}
@@ -18,8 +16,8 @@ use Rattle.mp_flow.specs.declared.network.Flow.{Flow as FlowList}
 use Rattle.mp_flow.specs.Answers.{solved, Answers, IsKernel}
 use Rattle.mp_flow.specs.Meeting.{Meets, IfSingular}
 use Rattle.mp_flow.specs.Calculating.{HoldsRows, flows_of, worths_of, Gives, IsMoved, Splits, list_of, IsRegular, IsAnswer, AnsweredAt}
-use Rattle.mp_flow.specs.Systems.{flow_rows, worth_rows, Flows, flows_from, stated_flows, worths_from, stated_worths, AreFlows, AreWorths}
-use Rattle.mp_flow.proofs.BalanceLemmas.{flow_kernel, flows_right, worth_kernel, worths_right}
+use Rattle.mp_flow.specs.Systems.{flow_rows, worth_rows, Flows, flows_from, stated_flows, worths_from, stated_worths, AreFlows, AreWorths, AreOnlyFlows, AreOnlyWorths}
+use Rattle.mp_flow.proofs.BalanceLemmas.{flow_kernel, flows_right, flows_only, worth_kernel, worths_right, worths_only}
 
 -- a regular system is not singular
 pub regular_outcome : (rows : Rows) (r : Result Solved SolveFault) → IsRegular rows → IfSingular r (λ x. IsKernel rows.n (list_of rows) x) → IfSingular r (λ x. ⊥)
@@ -101,4 +99,11 @@ unfolding stated_worths
 worths_refused net u fault (inl p) = inl (p.0, ap worths_from p.1.1)
 worths_refused net u fault (inr m) = inr m
 
-pub ruleset calculating = (flow_regular, worth_regular, held_answered, flows_stated, flows_balance, flows_refused, worths_stated, worths_balance, worths_refused)
+pub flows_one : (net : Network) (r : Result FlowPair CalcFault) → IsNetwork net → IfOk r (λ p. AreFlows net (flows_of p)) → IfOk r (λ p. AreOnlyFlows net (flows_of p))
+flows_one net (Ok p) ok a = flows_only net ok (flows_of p) a
+flows_one net (Err fault) ok a = tt
+
+pub worths_one : (net : Network) (u : List ℤ) (s : Solved) → IsNetwork net → AreWorths net u (record { x = s.x; d = s.d }) → AreOnlyWorths net u (record { x = s.x; d = s.d })
+worths_one net u s ok a = worths_only net ok u (record { x = s.x; d = s.d }) a
+
+pub ruleset calculating = (flow_regular, worth_regular, held_answered, flows_stated, flows_balance, flows_refused, worths_stated, worths_balance, worths_refused, flows_one, worths_one)

@@ -1,7 +1,9 @@
 -- One solution of each of the two systems, and none that is negative.
-use Rattle.std.proofs.Common.{◌≡◌, ℕ, zero, suc, ◌+◌, ◌*◌, ◌<◌, ◌≤◌, ℤ, pos, negsuc, ◌+ℤ◌, ◌*ℤ◌, neg_ℤ, ◌≤ℤ◌, ap, sym, ◌∙◌, arith, unsigned_abs}
+use Rattle.std.proofs.Common.{◌≡◌, ℕ, zero, suc, ◌+◌, ◌*◌, ◌<◌, ◌≤◌, ℤ, pos, negsuc, ◌+ℤ◌, ◌-ℤ◌, ◌*ℤ◌, neg_ℤ, ◌≤ℤ◌, ap, ap₂, sym, ◌∙◌, arith, unsigned_abs}
 use Rattle.std.proofs.lemmas.Int.{ints, unsigned_abs-mul}
 use Rattle.mp_flow.proofs.RouteLemmas.{sum_below, IsRouting, covered_by_inflow, covered_by_next, sum-same}
+use Rattle.mp_num.proofs.Ring.{diff_of, differences, diff-eq}
+use Rattle.mp_num.proofs.SumLemmas.{total-same, total-combine}
 use Rattle.mp_num.specs.Sums.{total}
 
 abs_plus : (a b : ℤ) → unsigned_abs (a +ℤ b) ≤ unsigned_abs a + unsigned_abs b
@@ -72,3 +74,33 @@ pub worth_positive : (n whole : ℕ) (share : ℕ → ℕ → ℕ) (outward : �
 worth_positive n whole share outward x b r hb h l k =
     zero_lack (x l) (covered_by_next n whole share outward (λ l. lack (x l)) r
     (λ l j. lack_covered_by whole _ (x l) _ (b l) (hb l j) (h l j) (lack_total n (share l) x)) l k)
+
+-- ---- two solutions are the same fractions
+scaled_law : (w e f d g : ℤ) → w *ℤ (e *ℤ f -ℤ d *ℤ g) ≡ e *ℤ (w *ℤ f) -ℤ d *ℤ (w *ℤ g)
+scaled_law w e f d g = rw (diff_of w, diff_of e, diff_of f, diff_of d, diff_of g) (simp differences (diff-eq _ _ _ _ (omega arith)))
+
+cancel_law : (e i d j b : ℤ) → e *ℤ (i +ℤ d *ℤ b) -ℤ d *ℤ (j +ℤ e *ℤ b) ≡ e *ℤ i -ℤ d *ℤ j
+cancel_law e i d j b = rw (diff_of e, diff_of i, diff_of d, diff_of j, diff_of b) (simp differences (diff-eq _ _ _ _ (omega arith)))
+
+difference_solves : (n : ℕ) (w : ℤ) (s : ℕ → ℤ) (f g : ℕ → ℤ) (d e b x y : ℤ) → w *ℤ x ≡ total n (λ k. s k *ℤ f k) +ℤ d *ℤ b → w *ℤ y ≡ total n (λ k. s k *ℤ g k) +ℤ e *ℤ b →
+    w *ℤ (e *ℤ x -ℤ d *ℤ y) ≡ total n (λ k. s k *ℤ (e *ℤ f k -ℤ d *ℤ g k))
+difference_solves n w s f g d e b x y h k =
+    scaled_law w e x d y ∙ ap₂ (λ a c. e *ℤ a -ℤ d *ℤ c) h k ∙ cancel_law e (total n (λ k. s k *ℤ f k)) d (total n (λ k. s k *ℤ g k)) b
+    ∙ sym (total-combine n e d (λ k. s k *ℤ f k) (λ k. s k *ℤ g k)) ∙ total-same n _ _ (λ k _. sym (scaled_law (s k) e (f k) d (g k)))
+
+equal_from_zero : (a c : ℤ) → a -ℤ c ≡ pos 0 → a ≡ c
+equal_from_zero a c e = omega (arith, ints, e)
+
+pub flow_one : (n whole : ℕ) (share : ℕ → ℕ → ℕ) (outward : ℕ → ℕ) (f g b : ℕ → ℤ) (d e : ℤ) → IsRouting n whole share outward →
+    ((m : ℕ) → m < n → pos whole *ℤ f m ≡ total n (λ l. pos (share l m) *ℤ f l) +ℤ d *ℤ b m) →
+    ((m : ℕ) → m < n → pos whole *ℤ g m ≡ total n (λ l. pos (share l m) *ℤ g l) +ℤ e *ℤ b m) → (l : ℕ) → l < n → e *ℤ f l ≡ d *ℤ g l
+flow_one n whole share outward f g b d e r hf hg l k =
+    equal_from_zero (e *ℤ f l) (d *ℤ g l) (flow_unique n whole share outward (λ l. e *ℤ f l -ℤ d *ℤ g l) r
+    (λ m j. difference_solves n (pos whole) (λ l. pos (share l m)) f g d e (b m) (f m) (g m) (hf m j) (hg m j)) l k)
+
+pub worth_one : (n whole : ℕ) (share : ℕ → ℕ → ℕ) (outward : ℕ → ℕ) (f g b : ℕ → ℤ) (d e : ℤ) → IsRouting n whole share outward →
+    ((l : ℕ) → l < n → pos whole *ℤ f l ≡ total n (λ m. pos (share l m) *ℤ f m) +ℤ d *ℤ b l) →
+    ((l : ℕ) → l < n → pos whole *ℤ g l ≡ total n (λ m. pos (share l m) *ℤ g m) +ℤ e *ℤ b l) → (l : ℕ) → l < n → e *ℤ f l ≡ d *ℤ g l
+worth_one n whole share outward f g b d e r hf hg l k =
+    equal_from_zero (e *ℤ f l) (d *ℤ g l) (worth_unique n whole share outward (λ l. e *ℤ f l -ℤ d *ℤ g l) r
+    (λ l j. difference_solves n (pos whole) (λ m. pos (share l m)) f g d e (b l) (f l) (g l) (hf l j) (hg l j)) l k)

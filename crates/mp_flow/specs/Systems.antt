@@ -84,6 +84,11 @@ pub record AreFlows (net : Network) (flows : Flows) : Type 0 where
   pub rate_sign : All (λ v. pos 0 ≤ℤ v) flows.rate
   pub unit_sign : All (λ v. pos 0 ≤ℤ v) flows.unit
 
+-- Flows are the only ones where all other numbers that are balanced in the same way, over any denominator, are the same fractions.
+pub record AreOnlyFlows (net : Network) (flows : Flows) : Type 0 where
+  pub rates : (f : List ℤ) (d : ℤ) → AllByRecursion (λ l. IsBalancedFlow net f d (net.shares * (link_at net l).rate) l) (link_numbers net) → AllByRecursion (λ l. flows.d *ℤ int_entry f l ≡ d *ℤ int_entry flows.rate l) (link_numbers net)
+  pub units : (f : List ℤ) (d : ℤ) → AllByRecursion (λ l. IsBalancedFlow net f d (net.shares * length (into_link net l)) l) (link_numbers net) → AllByRecursion (λ l. flows.d *ℤ int_entry f l ≡ d *ℤ int_entry flows.unit l) (link_numbers net)
+
 -- This is the number at the link that a movement goes to, and 0 where it leaves the network.
 abbrev pub onward : List ℤ → Option ℕ → ℤ
 onward x None = pos 0
@@ -100,3 +105,7 @@ pub record AreWorths (net : Network) (u : List ℤ) (worths : Worths) : Type 0 w
   pub values : length worths.x ≡ length net.links
   pub balance : AllByRecursion (IsBalancedWorth net u worths.x worths.d) (link_numbers net)
   pub sign : All (λ v. pos 0 ≤ℤ v) worths.x
+
+-- Worths are the only ones where all other numbers that are balanced in the same way, over any denominator, are the same fractions.
+pub record AreOnlyWorths (net : Network) (u : List ℤ) (worths : Worths) : Type 0 where
+  pub values : (x : List ℤ) (d : ℤ) → AllByRecursion (IsBalancedWorth net u x d) (link_numbers net) → AllByRecursion (λ l. worths.d *ℤ int_entry x l ≡ d *ℤ int_entry worths.x l) (link_numbers net)

@@ -3,7 +3,7 @@ ghost use Rattle.std.specs.Prelude.{◌≡◌, ◌+◌, ◌*◌, ◌<◌, ◌≤
 ghost use Rattle.mp_model.specs.NetworkRules.{IsNetwork};
 ghost use Rattle.mp_flow.specs.Meeting.{IfSingular};
 ghost use Rattle.mp_flow.specs.Calculating.{IsMoved, Gives, flows_of, worths_of, Splits, list_of, IsRegular, AnsweredAt};
-ghost use Rattle.mp_flow.specs.Systems.{stated_flows, AreFlows, stated_worths, AreWorths};
+ghost use Rattle.mp_flow.specs.Systems.{stated_flows, AreFlows, AreOnlyFlows, stated_worths, AreWorths, AreOnlyWorths};
 
 use crate::network_rows::{flow_system, worth_system};
 use crate::solving::{Rows, SolveFault, Solved, solve};
@@ -127,6 +127,7 @@ fn worths(solved: Solved) -> Flow
 pub fn flows(alloc: Global, net: &Net) -> Result<FlowPair, CalcFault>
     ensures calculation { Gives Place.Flow flows_of result (stated_flows net.now) }
     ensures balance { IfOk result (λ p. AreFlows net.now (flows_of p)) }
+    ensures one { IfOk result (λ p. AreOnlyFlows net.now (flows_of p)) }
 {
     let n = links_of(net);
     let Ok(rows) = flow_system(alloc, net) else {
@@ -147,6 +148,7 @@ pub fn adjoint(alloc: Global, net: &Net, u: &[i128]) -> Result<Flow, CalcFault>
     requires signs { All (λ v. pos 0 ≤ℤ v) u.now }
     ensures calculation { Gives Place.Adjoint worths_of result (stated_worths net.now u.now) }
     ensures balance { IfOk result (λ f. AreWorths net.now u.now (worths_of f)) }
+    ensures one { IfOk result (λ f. AreOnlyWorths net.now u.now (worths_of f)) }
 {
     let _n = links_of(net);
     let Ok(rows) = worth_system(alloc, net, u) else {
