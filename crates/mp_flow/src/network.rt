@@ -35,8 +35,11 @@ pub enum Place {
 /// Why a calculation over a network has no result.
 #[derive(Clone, Copy, PartialEq, Eq, Debug)]
 pub enum CalcFault {
+    /// The calculation passes 128 bits at this place.
     Overflow(Place),
+    /// The turns of the game end at this junction first.
     PivotLimit(JunctionNo),
+    /// There was no memory for the calculation.
     NoMemory,
 }
 
@@ -139,7 +142,8 @@ pub fn flows(alloc: Global, net: &Net) -> Result<FlowPair, CalcFault>
     }
 }
 
-/// What a vehicle on each link is worth, where `u` has one number of at least 0 per link, in link order.
+/// What a vehicle on each link is worth: the mean, by shares, of what the links behind its movements are worth, and the link's number in `u` over the share total.
+/// `u` has one number of at least 0 per link, in link order.
 ///
 /// `Overflow(Place::Adjoint)` comes exactly where the stated calculation passes 128 bits.
 #[tactic(auto, using(crate::proofs::CalculatingLemmas::calculating))]

@@ -10,18 +10,22 @@ use mp_num::rows::{lcm, quotient};
 use mp_num::{Numbers, mul, sub};
 use std::alloc::{AllocError, Global};
 
-/// The answers of a system, right side by right side, over one denominator.
+/// The answers of a system, over the denominator `d`, which is at least 1.
+/// `x` has one number per column for the first right side, then for the next.
 #[derive(Drop)]
 pub struct Solved {
     pub x: Numbers,
     pub d: i128,
 }
 
-/// Why a system has no answer here.
+/// Why `solve` has no answer.
 #[derive(Debug, Drop)]
 pub enum SolveFault {
+    /// One number per column, not all 0, whose sum with each row is 0.
     Singular { kernel: Numbers },
+    /// The column, from 1, at which the calculation passes 128 bits; one more than the last where the reading of the answers does.
     Overflow { column: usize },
+    /// There was no memory for the answers.
     NoMemory,
 }
 
@@ -191,7 +195,7 @@ fn solve_cells(
     }
 }
 
-/// A system of `n` rows, each with `n` coefficients and `rights` right sides.
+/// A system of `n` rows, row after row in the cells, each with `n` coefficients and then `rights` right sides.
 #[derive(Drop)]
 pub struct Rows {
     pub n: usize,
@@ -199,10 +203,10 @@ pub struct Rows {
     pub cells: Vec<i128>,
 }
 
-/// Solves the system for each right side, over one denominator of at least 1. Its cells are open afterwards.
+/// Solves the system for each right side, by elimination without fractions (Bareiss 1968). Its cells are open afterwards.
 ///
-/// A system with no single answer is `Singular`, with a list of values, not all 0, whose sum with each row is 0.
-/// `Overflow` names the column, from 1, at which the calculation passes 128 bits, and one more than the last for the reading of the answers.
+/// Each row is reduced, and then each column is cleared with the lowest row that is not used and not 0 there.
+/// `Singular` comes where no such row is left, `Overflow` exactly where this calculation passes 128 bits.
 #[tactic(auto, using(crate::proofs::SolveLemmas::meanings))]
 pub fn solve(alloc: Global, rows: &mut Rows) -> Result<Solved, SolveFault>
     requires some { 0 < rows.old.n }
