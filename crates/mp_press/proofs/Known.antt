@@ -17,6 +17,7 @@ use Rattle.mp_laws.proofs.Lists.{each_in, at_in, all_in, has_filter}
 use Rattle.mp_laws.proofs.Distinct.{range_distinct, distinct_filter, shared_le}
 use Rattle.mp_laws.proofs.Serve.{stage_in}
 use Rattle.mp_laws.proofs.Sums.{sum_by-same_at}
+use Rattle.mp_net.proofs.Entries.{all_at}
 use Rattle.mp_press.specs.Written.{IsAmong}
 
 -- a number that stands in the range is one of it, and the other way round
@@ -67,6 +68,10 @@ distinct_few xs ks d h =
     ones : (ys : List ℕ) → sum_by (λ (k : ℕ). 1) ys ≡ length ys
     ones [] = refl
     ones (y ∷ ys) = omega (arith, sum_by-cons (λ (k : ℕ). 1) y ys, ones ys)
+
+-- a junction has some stage
+pub some_stage : (net : Network) → IsNetwork net → (j : ℕ) → 1 ≤ j → j ≤ length net.junctions → 1 ≤ length (junction_at net j).stages
+some_stage net ok j low high = all_at (λ j. 1 ≤ length j.stages) net.junctions (j - 1) no_junction ok.some_stage (omega arith)
 
 -- the stages of a junction
 module _ (net : Network) (ok : IsNetwork net) where

@@ -1,13 +1,23 @@
 -- One period and the end, from what the calls say.
-use Rattle.std.proofs.Common.{◌≡◌, ◌≤◌, ℕ, zero, suc, ◌+◌, ◌-◌, List, [], ◌∷◌, ◌++◌, length, map, sum, sum_by, get_or, refl, sym, ◌∙◌, ap, subst, arith}
-use Rattle.std.specs.List.{range_with_len, flat_map}
-use Rattle.std.proofs.lemmas.List.{append-nil, append_assoc, length-append, get_or_at}
+use Rattle.std.proofs.Common.{◌≡◌, ◌≤◌, ◌<◌, ◌^◌, ℕ, ℤ, pos, zero, suc, ◌+◌, ◌-◌, List, [], ◌∷◌, ◌++◌, length, map, sum, sum_by, get_or, refl, sym, ◌∙◌, ap, subst, arith, Result, Ok, Err, OnOk, OnErr}
+use Rattle.std.specs.declared.option.Option.{Option}
+use Rattle.std.specs.List.{range_with_len, flat_map, All, AllByRecursion}
+use Rattle.std.proofs.lemmas.List.{append-nil, append_assoc, length-append, length-map, get_or_at}
 use Rattle.std.proofs.lemmas.List.Sums.{sum_by-cons}
-use Rattle.mp_model.specs.Network.{Network, movement_numbers, entry}
-use Rattle.mp_model.specs.Arrivals.{arrivals_of}
-use Rattle.mp_model.specs.Step.{State, queue, queued, step}
+use Rattle.std.proofs.lemmas.List.Elements.{All-cons}
+use Rattle.mp_model.specs.Network.{Network, Junction, movement_numbers, entry, fed}
+use Rattle.mp_model.specs.NetworkRules.{IsInRange}
+use Rattle.mp_model.specs.Arrivals.{arrivals_of, HasCounts}
+use Rattle.mp_model.specs.Step.{State, AreStages, queue, queued, step}
 use Rattle.mp_model.specs.Run.{greatest_stages, advance, state_after}
 use Rattle.mp_model.specs.Log.{text_of, period_line, line_after, lines_from, end_line, end_line_of}
+use Rattle.mp_edge.specs.Outside.{Tells, Puts, GainsPrefix}
+use Rattle.mp_edge.proofs.Told.{Tells-weaker}
+use Rattle.mp_run.specs.Running.{Closed, CutShort, Finishes}
+use Rattle.mp_run.specs.declared.run.RunEnd.TheVariants.{Done, Write}
+use Rattle.mp_log.specs.Fitting.{FitsLine}
+use Rattle.mp_log.proofs.FedLemmas.{fed_few}
+use Rattle.mp_press.specs.Queues.{naturals, NoneNegative}
 use Rattle.mp_step.specs.Standing.{Standing, IsOn, Stands}
 
 -- one line alone
@@ -57,3 +67,78 @@ end_is net st state n on stands is =
         (ap (λ p. end_line_of p st.total_in st.total_out n) stands.period ∙ ap (λ i. end_line_of state.period i st.total_out n) stands.total_in
         ∙ ap (λ o. end_line_of state.period state.total_in o n) stands.total_out ∙ ap (end_line_of state.period state.total_in state.total_out) (is ∙ sym (queued_is net st state on stands)))
     ∙ sym (one_line (end_line net state))
+
+-- stages are as many as the junctions, and none is above the most stages of a junction
+stages_count : (js : List Junction) (ss : List ℕ) → AreStages js ss → length ss ≡ length js
+stages_count [] [] are = refl
+stages_count (j ∷ js) (s ∷ ss) are = let rest = stages_count js ss are.1 in omega arith
+stages_count [] (s ∷ ss) are = absurd are
+stages_count (j ∷ js) [] are = absurd are
+
+stages_small : (js : List Junction) (ss : List ℕ) → AreStages js ss → AllByRecursion (λ j. length j.stages ≤ 16) js → All (λ s. s ≤ 16) ss
+stages_small [] [] are most = λ k d low. absurd (omega arith)
+stages_small (j ∷ js) (s ∷ ss) are most = All-cons (λ m. m ≤ 16) s ss (omega (arith, are.0, most.0)) (stages_small js ss are.1 most.1)
+stages_small [] (s ∷ ss) are most = absurd are
+stages_small (j ∷ js) [] are most = absurd are
+
+-- the line of a period fits
+pub line_fits : (net : Network) (period : ℕ) (counts stages : List ℕ) (queues : List ℤ) (st : Standing) → IsInRange net → IsOn net st → HasCounts net counts → AreStages net.junctions stages
+    → All (λ a. a < 10 ^ 9) counts → period ≤ 2 ^ 48 → queues ≡ map pos st.queues → All (λ q. q ≤ 2 ^ 85) st.queues → FitsLine period counts stages queues
+line_fits net period counts stages queues st range on has are digits low same few = record {
+  counts = st.queues;
+  none_negative = same;
+  period_in = low;
+  few_arrivals = let links = range.links in omega (arith, has, fed_few net, links.1);
+  few_stages = let junctions = range.junctions in omega (arith, stages_count net.junctions stages are, junctions.1);
+  few_queues = let movements = range.movements in omega (arith, ap length same, length-map st.queues pos, on.queues, movements.1);
+  arrivals_in = digits;
+  stages_in = stages_small net.junctions stages are range.stages;
+  queues_in = few }
+
+-- signed counts are those of their numbers
+pub signed_is : (zs : List ℤ) (ns : List ℕ) → NoneNegative zs → naturals zs ≡ ns → zs ≡ map pos ns
+signed_is zs ns none same = sym none ∙ ap (map pos) same
+
+-- the line that is put is that of the run
+put_line : (net : Network) (stages counts shown : List ℕ) (old new : Standing) (period : ℕ) → stages ≡ greatest_stages net (entry old.queues)
+    → ((state : State) → Stands net old state → Stands net new (step net stages (arrivals_of net counts) state)) → period ≡ new.period → shown ≡ stages
+    → (state : State) → Stands net old state → period_line period counts shown new.queues ++ 10 ∷ [] ≡ text_of (line_after net state counts ∷ [])
+put_line net stages counts shown old new period chosen closes is same state stands =
+    ap (λ p. period_line p counts shown new.queues ++ 10 ∷ []) is ∙ ap (λ s. period_line new.period counts s new.queues ++ 10 ∷ []) same
+    ∙ line_is net stages counts old new chosen state stands (advanced net stages counts old new chosen closes state stands)
+
+-- a put that succeeds closes the period
+pub closes_period : {T E : Type 0} (r : Result T E) (net : Network) (stages counts shown : List ℕ) (old new : Standing) (period : ℕ) (was now : Option (List ℕ)) → stages ≡ greatest_stages net (entry old.queues)
+    → ((state : State) → Stands net old state → Stands net new (step net stages (arrivals_of net counts) state)) → period ≡ new.period → shown ≡ stages
+    → Tells was now (Puts r (period_line period counts shown new.queues ++ 10 ∷ [])) → OnOk r (Closed net counts old new was now)
+closes_period (Ok x) net stages counts shown old new period was now chosen closes is same told = record {
+  moved = advanced net stages counts old new chosen closes;
+  written = λ state stands. Tells-weaker _ _ _ _ (λ before after e. e ∙ ap (λ xs. before ++ xs) (put_line net stages counts shown old new period chosen closes is same state stands)) told }
+closes_period (Err e) net stages counts shown old new period was now chosen closes is same told = tt
+
+-- and one that fails cuts its line short
+pub cuts_period : {T E : Type 0} (r : Result T E) (net : Network) (stages counts shown : List ℕ) (old new : Standing) (period : ℕ) (was now : Option (List ℕ)) → stages ≡ greatest_stages net (entry old.queues)
+    → ((state : State) → Stands net old state → Stands net new (step net stages (arrivals_of net counts) state)) → period ≡ new.period → shown ≡ stages
+    → Tells was now (Puts r (period_line period counts shown new.queues ++ 10 ∷ [])) → OnErr r (CutShort net counts old was now)
+cuts_period (Ok x) net stages counts shown old new period was now chosen closes is same told = tt
+cuts_period (Err e) net stages counts shown old new period was now chosen closes is same told =
+    λ state stands. subst (λ (text : List ℕ). Tells was now (GainsPrefix text)) (put_line net stages counts shown old new period chosen closes is same state stands) told
+
+put_end_is : (net : Network) (st : Standing) (period total_in total_out n : ℕ) → IsOn net st → period ≡ st.period → total_in ≡ st.total_in → total_out ≡ st.total_out → n ≡ total_in - total_out
+    → st.total_in ≡ st.total_out + sum st.queues → (state : State) → Stands net st state → end_line_of period total_in total_out n ++ 10 ∷ [] ≡ text_of (end_line net state ∷ [])
+put_end_is net st period total_in total_out n on p i o is conserved state stands =
+    ap (λ m. end_line_of m total_in total_out n ++ 10 ∷ []) p ∙ ap (λ m. end_line_of st.period m total_out n ++ 10 ∷ []) i ∙ ap (λ m. end_line_of st.period st.total_in m n ++ 10 ∷ []) o
+    ∙ end_is net st state n on stands (omega arith)
+
+-- the end line that is put
+pub finishes_done : {T E : Type 0} (r : Result T E) (x : T) (net : Network) (st : Standing) (period total_in total_out n : ℕ) (was now : Option (List ℕ)) → IsOn net st → period ≡ st.period → total_in ≡ st.total_in → total_out ≡ st.total_out
+    → n ≡ total_in - total_out → st.total_in ≡ st.total_out + sum st.queues → r ≡ Ok x → Tells was now (Puts r (end_line_of period total_in total_out n ++ 10 ∷ [])) → Finishes net Done st was now
+finishes_done r x net st period total_in total_out n was now on p i o is conserved ok told =
+    λ state stands. Tells-weaker _ _ _ _ (λ before after e. e ∙ ap (λ xs. before ++ xs) (put_end_is net st period total_in total_out n on p i o is conserved state stands))
+        (subst (λ s. Tells was now (Puts s (end_line_of period total_in total_out n ++ 10 ∷ []))) ok told)
+
+pub finishes_cut : {T E : Type 0} (r : Result T E) (x : E) (net : Network) (st : Standing) (period total_in total_out n : ℕ) (was now : Option (List ℕ)) → IsOn net st → period ≡ st.period → total_in ≡ st.total_in → total_out ≡ st.total_out
+    → n ≡ total_in - total_out → st.total_in ≡ st.total_out + sum st.queues → r ≡ Err x → Tells was now (Puts r (end_line_of period total_in total_out n ++ 10 ∷ [])) → Finishes net Write st was now
+finishes_cut r x net st period total_in total_out n was now on p i o is conserved err told =
+    λ state stands. subst (λ (text : List ℕ). Tells was now (GainsPrefix text)) (put_end_is net st period total_in total_out n on p i o is conserved state stands)
+        (subst (λ s. Tells was now (Puts s (end_line_of period total_in total_out n ++ 10 ∷ []))) err told)

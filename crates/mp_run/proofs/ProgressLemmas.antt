@@ -1,10 +1,10 @@
 -- A run over a stream, line by line.
-use Rattle.std.proofs.Common.{◌≡◌, ◌≤◌, ◌^◌, ℕ, ◌+◌, List, [], ◌∷◌, ◌++◌, length, map, refl, sym, ◌∙◌, ap, subst, Some, None, arith, absurd}
+use Rattle.std.proofs.Common.{◌≡◌, ◌≤◌, ◌^◌, ℕ, ◌+◌, List, [], ◌∷◌, ◌++◌, length, map, refl, sym, ◌∙◌, ap, subst, Some, None, arith}
 use Rattle.std.specs.declared.option.Option.{Option}
 use Rattle.std.specs.List.{flat_map}
 use Rattle.std.proofs.lemmas.List.{append_assoc, append-nil, length-append}
 use Rattle.std.proofs.lemmas.List.Concat.{flat_map-append}
-use Rattle.mp_edge.specs.Outside.{Tells, GainsPrefix}
+use Rattle.mp_edge.specs.Outside.{Tells, IsPrefix, GainsPrefix}
 use Rattle.mp_edge.proofs.Told.{Tells-weaker, Tells-then, Tells-same}
 use Rattle.mp_edge.proofs.Gains.{GainsPrefix-longer, GainsPrefix-then}
 use Rattle.mp_model.specs.Network.{Network}
@@ -17,8 +17,9 @@ use Rattle.mp_text.specs.Cut.{Cut}
 use Rattle.mp_text.specs.Cutting.{Cuts, CutsLine}
 use Rattle.mp_text.specs.declared.cutter.LineStep.TheVariants.{Line, End, TooLong, Failed}
 use Rattle.mp_step.specs.Standing.{Standing, Stands}
-use Rattle.mp_run.specs.Running.{IsTaken, StartsWith, Finished, RefusedAt, HasTooMany, StopsReading, StopsWriting, Closed, CutShort, TakesKind, CutsKind, TakesLine, Finishes, Progress}
-use Rattle.mp_run.specs.declared.run.RunEnd.TheVariants.{Done, Write}
+use Rattle.mp_run.specs.Running.{EndsAs, IsTaken, StartsWith, Finished, RefusedAt, HasTooMany, StopsReading, StopsWriting, Closed, CutShort, TakesKind, CutsKind, TakesLine, Finishes, Progress}
+use Rattle.mp_run.specs.declared.run.RunEnd.{RunEnd}
+use Rattle.mp_run.specs.declared.run.RunEnd.TheVariants.{Done, Read, Write, LineLimit, Long, Grammar}
 use Rattle.mp_run.proofs.LineLemmas.{first_kind, first_long, starts_empty, starts_more, arrivals_more, arrivals_skipped}
 
 -- one more period at the end of a run
@@ -88,3 +89,150 @@ pub progress_line : (net : Network) (whole left left' : Option (List ℕ)) (cut 
     → Progress net whole left' new_cut.held was now' new (lines + 1)
 progress_line net whole left left' cut new_cut was now now' old new n lines p cuts takes =
     taken net whole left' new_cut.held was now now' old new p.kinds (without_events (plain_kind net new_cut.line)) lines p.count p.stands p.written (line_to_come net whole left left' cut new_cut p.kinds p.to_come cuts) takes
+
+-- the next line is too long
+pub progress_long : (net : Network) (whole left left' : Option (List ℕ)) (cut new_cut : Cut) (was now : Option (List ℕ)) (standing : Standing) (lines : ℕ)
+    → Progress net whole left cut.held was now standing lines → Tells left left' (Cuts 2049 TooLong cut new_cut) → RefusedAt net [] long_line (lines + 1) whole left' was now
+progress_long net whole left left' cut new_cut was now standing lines p cuts = record {
+  kinds = p.kinds;
+  number = ap (λ n. n + 1) (sym p.count);
+  read = Tells-then _ _ _ _ _ _ (λ text mid rest starts long.
+      let first = first_long net (cut.held ++ mid) long in
+      (first.0, subst (λ ks. StartsWith net text p.kinds ks) first.1 starts)) p.to_come cuts;
+  written = p.written }
+
+-- the source met a fault
+pub progress_failed : (net : Network) (whole left left' : Option (List ℕ)) (cut new_cut : Cut) (was now : Option (List ℕ)) (standing : Standing) (lines : ℕ)
+    → Progress net whole left cut.held was now standing lines → Tells left left' (Cuts 2049 Failed cut new_cut) → StopsReading net [] whole left' was now
+progress_failed net whole left left' cut new_cut was now standing lines p cuts = record {
+  kinds = p.kinds;
+  read = Tells-then _ _ _ _ _ _ (λ text mid rest starts same. (plain_kinds net (new_cut.held ++ rest), subst (λ (t : List ℕ). StartsWith net text p.kinds (plain_kinds net t)) same starts)) p.to_come cuts;
+  written = p.written }
+
+-- a line is left after the last that may be taken
+pub progress_many : (net : Network) (whole left left' : Option (List ℕ)) (cut new_cut : Cut) (was now : Option (List ℕ)) (standing : Standing)
+    → Progress net whole left cut.held was now standing (2 ^ 48) → Tells left left' (Cuts 2049 Line cut new_cut) → HasTooMany net [] whole left' was now
+progress_many net whole left left' cut new_cut was now standing p cuts = record {
+  kinds = p.kinds;
+  number = p.count;
+  read = Tells-weaker _ _ _ _ (λ text rest starts. (without_events (plain_kind net new_cut.line), plain_kinds net (new_cut.held ++ rest), starts)) (line_to_come net whole left left' cut new_cut p.kinds p.to_come cuts);
+  written = p.written }
+
+pub progress_many_long : (net : Network) (whole left left' : Option (List ℕ)) (cut new_cut : Cut) (was now : Option (List ℕ)) (standing : Standing)
+    → Progress net whole left cut.held was now standing (2 ^ 48) → Tells left left' (Cuts 2049 TooLong cut new_cut) → HasTooMany net [] whole left' was now
+progress_many_long net whole left left' cut new_cut was now standing p cuts = record {
+  kinds = p.kinds;
+  number = p.count;
+  read = Tells-then _ _ _ _ _ _ (λ text mid rest starts long.
+      let first = first_long net (cut.held ++ mid) long in
+      (long_line, first.0, subst (λ ks. StartsWith net text p.kinds ks) first.1 starts)) p.to_come cuts;
+  written = p.written }
+
+-- the end line behind the lines of the periods
+behind_periods : (net : Network) (kinds : List LineKind) (was now now' : Option (List ℕ)) → Tells was now (λ before after. after ≡ before ++ text_of (period_lines net (arrivals_of_kinds kinds)))
+    → Tells now now' (λ before after. after ≡ before ++ text_of (end_line net (state_after net (opening net) (arrivals_of_kinds kinds)) ∷ [])) → Tells was now' (λ before after. after ≡ before ++ run_text net (arrivals_of_kinds kinds))
+behind_periods net kinds was now now' written ended =
+    let A = arrivals_of_kinds kinds in
+    let last = text_of (end_line net (state_after net (opening net) A) ∷ []) in
+    Tells-then _ _ _ _ _ _ (λ before mid after w e. e ∙ ap (λ xs. xs ++ last) w ∙ append_assoc before (text_of (period_lines net A)) last ∙ ap (λ xs. before ++ xs) (sym (run_text_is net A))) written ended
+
+-- a prefix of more text behind the lines of the periods
+cut_behind : (net : Network) (kinds : List LineKind) (was now now' : Option (List ℕ)) (more all : List ℕ) → IsPrefix (text_of (period_lines net (arrivals_of_kinds kinds)) ++ more) all
+    → Tells was now (λ before after. after ≡ before ++ text_of (period_lines net (arrivals_of_kinds kinds))) → Tells now now' (GainsPrefix more) → Tells was now' (GainsPrefix all)
+cut_behind net kinds was now now' more all front written cut =
+    Tells-then _ _ _ _ _ _ (λ before mid after w gain. GainsPrefix-longer (text_of (period_lines net (arrivals_of_kinds kinds)) ++ more) all before after front
+        (GainsPrefix-then (text_of (period_lines net (arrivals_of_kinds kinds))) more before mid after w gain)) written cut
+
+ends_there : (net : Network) (whole left left' : Option (List ℕ)) (cut new_cut : Cut) (kinds : List LineKind) → Tells whole left (λ text rest. StartsWith net text kinds (plain_kinds net (cut.held ++ rest)))
+    → Tells left left' (Cuts 2049 End cut new_cut) → Tells whole left' (λ text rest. (rest ≡ []) × StartsWith net text kinds [])
+ends_there net whole left left' cut new_cut kinds to_come cuts =
+    Tells-then _ _ _ _ _ _ (λ text mid rest starts e. (e.1, subst (λ (t : List ℕ). StartsWith net text kinds (plain_kinds net t)) e.0 starts)) to_come cuts
+
+-- the end, and the end line or a prefix of it
+pub progress_end : (net : Network) (end : RunEnd) (whole left left' : Option (List ℕ)) (cut new_cut : Cut) (was now now' : Option (List ℕ)) (standing : Standing) (lines : ℕ)
+    → Progress net whole left cut.held was now standing lines → Tells left left' (Cuts 2049 End cut new_cut) → Finishes net end standing now now' → EndsAs net [] end whole left' was now'
+progress_end net Done whole left left' cut new_cut was now now' standing lines p cuts finishes = record {
+  kinds = p.kinds;
+  read = ends_there net whole left left' cut new_cut p.kinds p.to_come cuts;
+  written = behind_periods net p.kinds was now now' p.written (finishes (state_after net (opening net) (arrivals_of_kinds p.kinds)) p.stands) }
+progress_end net Write whole left left' cut new_cut was now now' standing lines p cuts finishes =
+    let A = arrivals_of_kinds p.kinds in
+    let last = text_of (end_line net (state_after net (opening net) A) ∷ []) in
+    record {
+      kinds = p.kinds;
+      read = Tells-weaker _ _ _ _ (λ text rest ended. ([], ended.1)) (ends_there net whole left left' cut new_cut p.kinds p.to_come cuts);
+      written = cut_behind net p.kinds was now now' last (run_text net A) ([], sym (append-nil (text_of (period_lines net A) ++ last) ∙ sym (run_text_is net A))) p.written (finishes (state_after net (opening net) A) p.stands) }
+progress_end net Read whole left left' cut new_cut was now now' standing lines p cuts finishes = absurd finishes
+progress_end net LineLimit whole left left' cut new_cut was now now' standing lines p cuts finishes = absurd finishes
+progress_end net (Long n) whole left left' cut new_cut was now now' standing lines p cuts finishes = absurd finishes
+progress_end net (Grammar n) whole left left' cut new_cut was now now' standing lines p cuts finishes = absurd finishes
+
+-- the line of the period was cut short
+cut_at : (net : Network) (whole left : Option (List ℕ)) (held : List ℕ) (was now now' : Option (List ℕ)) (standing : Standing) (kinds : List LineKind) (kind : LineKind)
+    → Stands net standing (state_after net (opening net) (arrivals_of_kinds kinds)) → Tells was now (λ before after. after ≡ before ++ text_of (period_lines net (arrivals_of_kinds kinds)))
+    → Tells whole left (λ text rest. StartsWith net text kinds (kind ∷ plain_kinds net (held ++ rest))) → CutsKind net kind standing now now' → StopsWriting net [] whole left was now'
+cut_at net whole left held was now now' standing kinds (arrivals_line counts) stands written told cut =
+    let A = arrivals_of_kinds kinds in
+    let line = text_of (line_after net (state_after net (opening net) A) counts ∷ []) in
+    let more = arrivals_of_kinds (kinds ++ arrivals_line counts ∷ []) in
+    let last = text_of (end_line net (state_after net (opening net) more) ∷ []) in
+    let front : text_of (period_lines net more) ≡ text_of (period_lines net A) ++ line = ap (λ B. text_of (period_lines net B)) (arrivals_more kinds counts) ∙ text_more net A counts in
+    record {
+      kinds = kinds ++ arrivals_line counts ∷ [];
+      read = Tells-weaker _ _ _ _ (λ text rest starts. (plain_kinds net (held ++ rest), starts_more net text kinds (plain_kinds net (held ++ rest)) (arrivals_line counts) starts tt)) told;
+      written = cut_behind net kinds was now now' line (run_text net more) (last, run_text_is net more ∙ ap (λ xs. xs ++ last) front) written (cut (state_after net (opening net) A) stands) }
+cut_at net whole left held was now now' standing kinds skipped_line stands written told cut = absurd cut
+cut_at net whole left held was now now' standing kinds long_line stands written told cut = absurd cut
+cut_at net whole left held was now now' standing kinds bad_line stands written told cut = absurd cut
+cut_at net whole left held was now now' standing kinds (hear_line j l) stands written told cut = absurd cut
+cut_at net whole left held was now now' standing kinds (decide_line j) stands written told cut = absurd cut
+
+-- the run ends at a line
+pub progress_stop : (net : Network) (end : RunEnd) (whole left left' : Option (List ℕ)) (cut new_cut : Cut) (was now now' : Option (List ℕ)) (old new : Standing) (lines : ℕ)
+    → Progress net whole left cut.held was now old lines → Tells left left' (Cuts 2049 Line cut new_cut) → TakesLine net (without_events (plain_kind net new_cut.line)) (lines + 1) (Some end) old new now now' → EndsAs net [] end whole left' was now'
+progress_stop net Write whole left left' cut new_cut was now now' old new lines p cuts takes =
+    cut_at net whole left' new_cut.held was now now' old p.kinds (without_events (plain_kind net new_cut.line)) p.stands p.written (line_to_come net whole left left' cut new_cut p.kinds p.to_come cuts) takes
+progress_stop net (Grammar m) whole left left' cut new_cut was now now' old new lines p cuts takes = record {
+  kinds = p.kinds;
+  number = takes.1 ∙ ap (λ n. n + 1) (sym p.count);
+  read = Tells-weaker _ _ _ _ (λ text rest starts. (plain_kinds net (new_cut.held ++ rest), subst (λ kind. StartsWith net text p.kinds (kind ∷ plain_kinds net (new_cut.held ++ rest))) takes.0 starts))
+      (line_to_come net whole left left' cut new_cut p.kinds p.to_come cuts);
+  written = subst (λ o. Tells was o (λ before after. after ≡ before ++ text_of (period_lines net (arrivals_of_kinds p.kinds)))) (sym takes.2) p.written }
+progress_stop net Done whole left left' cut new_cut was now now' old new lines p cuts takes = absurd takes
+progress_stop net Read whole left left' cut new_cut was now now' old new lines p cuts takes = absurd takes
+progress_stop net LineLimit whole left left' cut new_cut was now now' old new lines p cuts takes = absurd takes
+progress_stop net (Long m) whole left left' cut new_cut was now now' old new lines p cuts takes = absurd takes
+
+behind_head : (net : Network) (head : List ℕ) (kinds : List LineKind) (was mid now : Option (List ℕ)) → Tells was mid (λ before after. after ≡ before ++ head)
+    → Tells mid now (λ before after. after ≡ before ++ text_of (period_lines net (arrivals_of_kinds kinds))) → Tells was now (λ before after. after ≡ before ++ (head ++ text_of (period_lines net (arrivals_of_kinds kinds))))
+behind_head net head kinds was mid now put written =
+    let lines = text_of (period_lines net (arrivals_of_kinds kinds)) in
+    Tells-then _ _ _ _ _ _ (λ before middle after w e. e ∙ ap (λ xs. xs ++ lines) w ∙ append_assoc before head lines) put written
+
+-- a head before the text of the run
+pub with_head : (net : Network) (head : List ℕ) (end : RunEnd) (whole left was mid now : Option (List ℕ)) → Tells was mid (λ before after. after ≡ before ++ head) → EndsAs net [] end whole left mid now → EndsAs net head end whole left was now
+with_head net head Done whole left was mid now put ends = record {
+  kinds = ends.kinds; read = ends.read;
+  written = Tells-then _ _ _ _ _ _ (λ before middle after w e. e ∙ ap (λ xs. xs ++ run_text net (arrivals_of_kinds ends.kinds)) w ∙ append_assoc before head (run_text net (arrivals_of_kinds ends.kinds))) put ends.written }
+with_head net head Read whole left was mid now put ends = record {
+  kinds = ends.kinds; read = ends.read;
+  written = behind_head net head ends.kinds was mid now put ends.written }
+with_head net head Write whole left was mid now put ends = record {
+  kinds = ends.kinds; read = ends.read;
+  written = Tells-then _ _ _ _ _ _ (λ before middle after w gain. GainsPrefix-then head (run_text net (arrivals_of_kinds ends.kinds)) before middle after w gain) put ends.written }
+with_head net head LineLimit whole left was mid now put ends = record {
+  kinds = ends.kinds; number = ends.number; read = ends.read;
+  written = behind_head net head ends.kinds was mid now put ends.written }
+with_head net head (Long n) whole left was mid now put ends = record {
+  kinds = ends.kinds; number = ends.number; read = ends.read;
+  written = behind_head net head ends.kinds was mid now put ends.written }
+with_head net head (Grammar n) whole left was mid now put ends = record {
+  kinds = ends.kinds; number = ends.number; read = ends.read;
+  written = behind_head net head ends.kinds was mid now put ends.written }
+
+-- the head itself was cut short
+pub head_cut : (net : Network) (head : List ℕ) (whole was now : Option (List ℕ)) → Tells was now (GainsPrefix head) → StopsWriting net head whole whole was now
+head_cut net head whole was now cut = record {
+  kinds = [];
+  read = Tells-same whole _ (λ text. (plain_kinds net text, starts_empty net text));
+  written = Tells-weaker _ _ _ _ (λ before after gain. GainsPrefix-longer head (head ++ run_text net []) before after (run_text net [], refl) gain) cut }

@@ -2,9 +2,9 @@
 use Rattle.std.proofs.Common.{◌≡◌, ◌==◌, ◌≤◌, ◌<◌, ℕ, zero, suc, ◌+◌, ◌-◌, ◌*◌, ◌%◌, ◌&&◌, Bool, true, false, cond, min, max, List, [], ◌∷◌, ◌++◌, length, get_or, set, drop, map, sum, sum_by, slice_index, Option, None, Some, nat_lt, ℤ, pos, arith, refl, sym, ◌∙◌, ap, ap₂, subst, eqb-true, eq-eqb, ne_eqb, add-one, drop-cons, ◌⊎◌, inl, inr, ⊎_elim, filter, not}
 use Rattle.std.specs.List.{AllByRecursion, IsDistinct, All, range_with_len, list_any, position, position_or_len}
 use Rattle.std.proofs.lemmas.Bool.{cases_lt, false≢true, ltb-false}
-use Rattle.std.proofs.lemmas.List.{length-map}
+use Rattle.std.proofs.lemmas.List.{length-map, get_or-map}
 use Rattle.std.proofs.lemmas.List.Sums.{sum-map}
-use Rattle.std.proofs.lemmas.List.FromFn.{fill_by_all, length-range_with_len}
+use Rattle.std.proofs.lemmas.List.FromFn.{fill_by_all, length-range_with_len, get_or-map-range_with_len}
 use Rattle.std.proofs.lemmas.List.Elements.{All-from_recursion}
 use Rattle.mp_laws.proofs.Lists.{eqb-turn}
 use Rattle.mp_laws.proofs.Lists.{filter_sub}
@@ -16,7 +16,7 @@ use Rattle.mp_laws.proofs.Lists.{at_range, in_range}
 use Rattle.mp_laws.proofs.Lists.{filter_has}
 use Rattle.mp_laws.proofs.Places.{split-map}
 use Rattle.mp_model.specs.Arrivals.{count_in}
-use Rattle.mp_model.specs.Network.{Network, has, movement_numbers, link_numbers, from_of, share_of, flow_of, out_of, entry}
+use Rattle.mp_model.specs.Network.{Network, has, numbers_to, movement_numbers, link_numbers, from_of, share_of, flow_of, out_of, entry}
 use Rattle.mp_model.specs.NetworkRules.{IsNetwork}
 use Rattle.mp_model.specs.Pressure.{positive_weight}
 use Rattle.mp_model.specs.Split.{split_counts, credit_of, first_greatest}
@@ -178,3 +178,11 @@ entry_moved net i k known le new old here there is a b = is ∙ go (has (out_of 
     go false e = b (⊎_elim (λ (lt : from_of net k < i + 1). omega arith)
         (λ (ge : i + 1 ≤ from_of net k). let same : from_of net k ≡ i + 1 = omega arith in absurd (false≢true (sym e ∙ has_filter (λ k. from_of net k == i + 1) k (movement_numbers net) (has_numbers (length net.movements) k known) (eq-eqb (from_of net k) (i + 1) same))))
         (cases_lt (from_of net k) (i + 1)))
+
+-- a table with a row per link
+pub rows_count : {X : Type 0} (of : X → List ℕ) (xs : List X) (f : ℕ → List ℕ) (n : ℕ) → map of xs ≡ map f (numbers_to n) → length xs ≡ n
+rows_count of xs f n e = sym (length-map xs of) ∙ ap length e ∙ length-map (numbers_to n) f ∙ length-range_with_len 1 n
+
+pub row_at : {X : Type 0} (of : X → List ℕ) (xs : List X) (f : ℕ → List ℕ) (n : ℕ) → map of xs ≡ map f (numbers_to n) → (i : ℕ) → i < n → (d : X) → of (get_or xs i d) ≡ f (i + 1)
+row_at of xs f n e i h d =
+    sym (get_or-map of xs i d [] (omega (arith, rows_count of xs f n e))) ∙ ap (λ t. get_or t i []) e ∙ get_or-map-range_with_len f 1 n i (i + 1) [] h (omega arith)

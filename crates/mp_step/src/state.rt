@@ -81,6 +81,7 @@ impl State {
     /// The queues, one per movement.
     pub fn queues(&self) -> &[i128]
         ensures value { naturals result.now ≡ self.now.queues }
+        ensures len { length result.now ≡ length self.now.queues }
         ensures counts { AreCounts result.now }
         ensures few { All (λ q. q ≤ 2 ^ 85) self.now.queues }
     {

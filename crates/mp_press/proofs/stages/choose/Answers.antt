@@ -1,15 +1,14 @@
 use Rattle.std.proofs.Common.{◌≡◌, ◌≤◌, ◌-◌, ◌∙◌, ap, arith, length, ℕ, List, replicate, cond, true}
 use Rattle.std.specs.List.{AllByRecursion}
 use Rattle.std.proofs.lemmas.List.{length-replicate}
-use Rattle.mp_model.specs.Network.{Network, entry, junction_at, stage_at, has, stands_in, no_junction}
+use Rattle.mp_model.specs.Network.{Network, entry, junction_at, stage_at, has, stands_in}
 use Rattle.mp_model.specs.Pressure.{IsGreatestStageBy, greatest_stage_by}
 use Rattle.mp_laws.proofs.Lists.{AllOf-map}
 use Rattle.mp_laws.proofs.Lists.{each_in, at_in}
 use Rattle.mp_press.specs.Queues.{naturals}
 use Rattle.mp_press.specs.Written.{IsAmong, written}
 use Rattle.mp_press.specs.Presses.{press_by, own_of, own_queue, next_queue}
-use Rattle.mp_net.proofs.Entries.{all_at}
-use Rattle.mp_press.proofs.Known.{stage_known, stage_own, kept_known}
+use Rattle.mp_press.proofs.Known.{some_stage, stage_known, stage_own, kept_known}
 use Rattle.mp_press.proofs.Writes.{entry-written}
 use Rattle.mp_press.proofs.Firsts.{greatest_agrees, greatest_by_is}
 use Rattle.mp_press.proofs.stages.choose.Goals as goal
@@ -36,5 +35,5 @@ pub returns-clause-greatest : goal.returns-clause-greatest
 returns-clause-greatest c =
     let net = c.args.net.now in
     let n = c.args.j in
-    let some = all_at (λ j. 1 ≤ length j.stages) net.junctions (n - 1) no_junction c.shares.ensures.acceptable.network.some_stage (omega arith) in
+    let some = some_stage net c.shares.ensures.acceptable.network n c.requires.junction.0 c.requires.junction.1 in
     rw (returns-clause-value c) (greatest_by_is net (own_queue net n (naturals c.args.own.now)) (next_queue net n (naturals c.args.next.now)) (junction_at net n) some)

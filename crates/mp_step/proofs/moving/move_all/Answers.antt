@@ -6,8 +6,7 @@ use Rattle.std.specs.List.{All}
 use Rattle.mp_model.specs.Arrivals.{arrivals_of}
 use Rattle.mp_model.specs.Network.{Network, out_of, into_link, share_of, from_of, has, movement_numbers, numbers_to, fed, entry}
 use Rattle.mp_model.specs.Step.{joined}
-use Rattle.mp_net.proofs.Entries.{length_by_number, list_by_number}
-use Rattle.mp_step.proofs.Moves.{count_below}
+use Rattle.mp_step.proofs.Moves.{count_below, rows_count, row_at}
 use Rattle.mp_press.proofs.Known.{from_known, kept_known}
 use Rattle.mp_press.proofs.Sums.{numbers_step}
 use Rattle.mp_press.proofs.Writes.{entry-written, numbers_by_all}
@@ -33,15 +32,15 @@ pub overflow_add-sum : goal.overflow_add-sum
 overflow_add-sum c = let few = came_few c.args.net.now c.args.arrivals.now (c.loop-i.i + 1) c.requires.digits in omega arith
 
 pub bounds-splits-at : goal.bounds-splits-at
-bounds-splits-at c = let size = length_by_number (λ split. split.shares) c.args.splits.now (shares_in c.args.net.now) (length c.args.net.now.links) c.requires.splits in omega arith
+bounds-splits-at c = let size = rows_count (λ split. split.shares) c.args.splits.now (shares_in c.args.net.now) (length c.args.net.now.links) c.requires.splits in omega arith
 
 pub move_link-requires-clause-split : goal.move_link-requires-clause-split
 move_link-requires-clause-split c =
     let net = c.args.net.now in
     let i = c.loop-i.i in
-    let at : (i + 1) - 1 ≡ c.from-at.result = omega (arith, c.from-at.ensures) in
-    ap (λ s. s.shares) (c.index-splits-at.is ∙ ap (λ n. get_or c.args.splits.now n c.index-splits-at.result) (sym at))
-    ∙ list_by_number (λ split. split.shares) c.args.splits.now (shares_in net) (length net.links) c.requires.splits (i + 1) (omega arith) (omega arith) c.index-splits-at.result
+    let at : c.from-at.result ≡ i = c.from-at.ensures in
+    ap (λ s. s.shares) (c.index-splits-at.is ∙ ap (λ n. get_or c.args.splits.now n c.index-splits-at.result) at)
+    ∙ row_at (λ split. split.shares) c.args.splits.now (shares_in net) (length net.links) c.requires.splits i (omega arith) c.index-splits-at.result
 
 pub move_link-requires-clause-digits : goal.move_link-requires-clause-digits
 move_link-requires-clause-digits c = omega (arith, c.arrivals_on-came.ensures, came_few c.args.net.now c.args.arrivals.now (c.loop-i.i + 1) c.requires.digits)

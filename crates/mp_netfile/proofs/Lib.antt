@@ -1,0 +1,15 @@
+pub mod Found
+pub mod Places
+pub mod Texts
+pub mod Spotless
+pub mod Small
+pub mod Rightness
+pub mod Joined
+pub mod Rows
+pub mod Depths
+pub mod Inside
+pub mod ReadBack
+pub mod Listed
+pub mod Known
+pub mod PrintedRules
+pub mod NameText

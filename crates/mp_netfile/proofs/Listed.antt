@@ -1,0 +1,55 @@
+-- The tree of a network breaks no rule on keys and types.
+use Rattle.std.proofs.Common.{◌≡◌, ℕ, Bool, true, false, List, [], ◌∷◌, map, Option, None, codes, ◌+◌, refl, ap, arith}
+use Rattle.std.specs.List.{position_from, list_all}
+use Rattle.toml.specs.Data.{Data, string, table}
+use Rattle.toml.specs.View.{items_of}
+use Rattle.mp_model.specs.Network.{Junction as JunctionRow, Network, movement_at}
+use Rattle.mp_net.specs.declared.fault.Section.TheVariants.{Link, Movement, Junction}
+use Rattle.mp_tree.specs.Tree.{is_table, is_text, section}
+use Rattle.mp_netfile.specs.Keys.{unknown_key, missing_key, has_unlisted_key, lacks_key, is_array_of_texts}
+use Rattle.mp_netfile.specs.Printed.{link_tree, movement_tree, stage_tree, junction_tree, network_tree}
+use Rattle.mp_netfile.proofs.ReadBack.{items_list-of, all_tables, section_tables}
+
+no_place : {A : Type 0} (test : Data → Bool) (f : A → Data) (i : ℕ) (xs : List A) → ((x : A) → test (f x) ≡ false) → position_from test i (map f xs) ≡ None
+no_place test f i [] h = refl
+no_place test f i (x ∷ xs) h = rw (h x, no_place test f (i + 1) xs h)
+
+pub unknown_key-tree : (net : Network) → unknown_key (table (network_tree net)) ≡ None
+unknown_key-tree net =
+    let s = section_tables net in
+    rw (
+      s.0,
+      s.1,
+      s.2,
+      no_place (has_unlisted_key Link) link_tree 1 net.links (λ l. refl),
+      no_place (has_unlisted_key Movement) (movement_tree net) 1 net.movements (λ m. refl),
+      no_place (has_unlisted_key Junction) (junction_tree net) 1 net.junctions (λ j. refl),
+    )
+
+all_pass : {A : Type 0} (test : Data → Bool) (f : A → Data) (xs : List A) → ((x : A) → test (f x) ≡ true) → list_all test (map f xs) ≡ true
+all_pass test f [] h = refl
+all_pass test f (x ∷ xs) h = rw (h x, all_pass test f xs h)
+
+texts : (net : Network) (ks : List ℕ) → is_array_of_texts (stage_tree net ks) ≡ true
+texts net ks = rw (items_list-of (map (λ k. string (movement_at net k).name) ks)) (all_pass is_text (λ (k : ℕ). string (movement_at net k).name) ks (λ k. refl))
+
+lacks_key-junction : (net : Network) (j : JunctionRow) → lacks_key Junction (junction_tree net j) ≡ false
+lacks_key-junction net j = rw (items_list-of (map (stage_tree net) j.stages), all_pass is_array_of_texts (stage_tree net) j.stages (texts net))
+
+pub missing_key-tree : (net : Network) → missing_key (table (network_tree net)) ≡ None
+missing_key-tree net =
+    let s = section_tables net in
+    rw (
+      s.0,
+      s.1,
+      s.2,
+      items_list-of (map link_tree net.links),
+      all_tables link_tree net.links (λ l. refl),
+      items_list-of (map (movement_tree net) net.movements),
+      all_tables (movement_tree net) net.movements (λ m. refl),
+      items_list-of (map (junction_tree net) net.junctions),
+      all_tables (junction_tree net) net.junctions (λ j. refl),
+      no_place (lacks_key Link) link_tree 1 net.links (λ l. refl),
+      no_place (lacks_key Movement) (movement_tree net) 1 net.movements (λ m. refl),
+      no_place (lacks_key Junction) (junction_tree net) 1 net.junctions (lacks_key-junction net),
+    )

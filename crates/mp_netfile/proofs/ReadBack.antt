@@ -1,0 +1,98 @@
+-- The tree of a network reads as the network.
+use Rattle.std.proofs.Common.{◌≡◌, ℕ, ◌+◌, ◌-◌, ◌≤◌, ◌<◌, zero, suc, Bool, true, false, not, List, [], ◌∷◌, length, map, get_or, Option, Some, None, IfSome, unwrap_or, codes, refl, ap, sym, ◌∙◌, arith}
+use Rattle.std.specs.List.{position_from, list_all, list_any, AllByRecursion}
+use Rattle.std.specs.Str.{bytes_eq}
+use Rattle.toml.specs.Data.{Data, string, array, table, Items}
+use Rattle.toml.specs.View.{items_of}
+use Rattle.mp_model.specs.Network.{Link, Movement, Junction, Network, link_at, movement_at}
+use Rattle.mp_model.specs.Names.{is_out}
+use Rattle.mp_netfile.specs.Numbered.{IsLink, IsMovement, IsTarget}
+use Rattle.mp_tree.specs.Tree.{items, items_list, is_table, section, text_or_empty}
+use Rattle.mp_netfile.specs.Meaning.{number_of, names_of, name_at, texts_of, link_from, target_from, movement_from, junction_from, stage_texts, network_from}
+use Rattle.mp_netfile.proofs.Joined.{map-map}
+use Rattle.mp_netfile.specs.Printed.{link_tree, target_name, movement_tree, stage_tree, junction_tree, network_tree}
+
+-- a movement goes from a link to a target
+abbrev pub HasEnds : Network → Movement → Type 0
+HasEnds net m = IsLink net m.from × IsTarget net m.to
+
+-- what reading back asks of a network: that each name in use is found at its number
+pub record IsPrintable (net : Network) : Type 0 where
+  pub links : (l : ℕ) → IsLink net l → (number_of (map (λ link. link.name) net.links) (link_at net l).name ≡ l) × (is_out (link_at net l).name ≡ false)
+  pub movements : (k : ℕ) → IsMovement net k → number_of (map (λ m. m.name) net.movements) (movement_at net k).name ≡ k
+  pub ends : AllByRecursion (HasEnds net) net.movements
+  pub stages : AllByRecursion (λ j. AllByRecursion (AllByRecursion (IsMovement net)) j.stages) net.junctions
+
+pub items_list-of : (ds : List Data) → items_list (items_of ds) ≡ ds
+items_list-of [] = refl
+items_list-of (d ∷ ds) = ap (λ x. d ∷ x) (items_list-of ds)
+
+pub all_tables : {A : Type 0} (f : A → Data) (xs : List A) → ((x : A) → is_table (f x) ≡ true) → list_all is_table (map f xs) ≡ true
+all_tables f [] h = refl
+all_tables f (x ∷ xs) h = rw (h x, all_tables f xs h)
+
+-- what a function gives of each element, where it is the element
+map_same : {A : Type 0} (P : A → Type 0) (f : A → A) (xs : List A) → ((x : A) → P x → f x ≡ x) → AllByRecursion P xs → map f xs ≡ xs
+map_same P f [] h all = refl
+map_same P f (x ∷ xs) h all = rw (h x all.0, map_same P f xs h all.1)
+
+pub section_tables : (net : Network)
+    → (section (codes "link") (table (network_tree net)) ≡ map link_tree net.links)
+    × (section (codes "movement") (table (network_tree net)) ≡ map (movement_tree net) net.movements)
+    × (section (codes "junction") (table (network_tree net)) ≡ map (junction_tree net) net.junctions)
+section_tables net = (
+  rw (items_list-of (map link_tree net.links), all_tables link_tree net.links (λ l. refl)),
+  rw (items_list-of (map (movement_tree net) net.movements), all_tables (movement_tree net) net.movements (λ m. refl)),
+  rw (items_list-of (map (junction_tree net) net.junctions), all_tables (junction_tree net) net.junctions (λ j. refl)),
+)
+
+link_from-tree : (link : Link) → link_from (link_tree link) ≡ link
+link_from-tree link = refl
+
+target_from-tree : (net : Network) (p : IsPrintable net) (to : Option ℕ) → IsTarget net to → target_from (map (λ link. link.name) net.links) (target_name net to) ≡ to
+target_from-tree net p None there = refl
+target_from-tree net p (Some l) there = let known = p.links l there in rw (known.1, known.0)
+
+movement_from-tree : (net : Network) (p : IsPrintable net) (m : Movement) → HasEnds net m → movement_from (map (λ link. link.name) net.links) (movement_tree net m) ≡ m
+movement_from-tree net p m there =
+    let from = (p.links m.from there.0).0 in
+    let to = target_from-tree net p m.to there.1 in
+    rw (from, to)
+
+junction_from-tree : (net : Network) (p : IsPrintable net) (j : Junction) → AllByRecursion (AllByRecursion (IsMovement net)) j.stages
+    → junction_from (map (λ m. m.name) net.movements) (junction_tree net j) ≡ j
+junction_from-tree net p j there =
+    rw (
+      items_list-of (map (stage_tree net) j.stages),
+      map-map (stage_tree net) (λ stage. texts_of (items stage)) j.stages,
+      map-map (λ ks. map text_or_empty (items (stage_tree net ks))) (map num) j.stages,
+      map_same (AllByRecursion (IsMovement net)) (λ ks. map num (map text_or_empty (items (stage_tree net ks)))) j.stages stage_same there,
+    )
+  where
+    num : List ℕ → ℕ
+    num = number_of (map (λ m. m.name) net.movements)
+
+    stage_same : (ks : List ℕ) → AllByRecursion (IsMovement net) ks → map num (map text_or_empty (items (stage_tree net ks))) ≡ ks
+    stage_same ks inside =
+        rw (items_list-of (map (λ k. string (movement_at net k).name) ks), map-map (λ k. string (movement_at net k).name) text_or_empty ks, map-map (λ k. (movement_at net k).name) num ks)
+        (map_same (IsMovement net) (λ k. num (movement_at net k).name) ks p.movements inside)
+
+map_each : {A B : Type 0} (P : A → Type 0) (f : A → B) (g : B → A) (xs : List A) → ((x : A) → P x → g (f x) ≡ x) → AllByRecursion P xs → map g (map f xs) ≡ xs
+map_each P f g [] h all = refl
+map_each P f g (x ∷ xs) h all = rw (h x all.0, map_each P f g xs h all.1)
+
+map_any : {A B : Type 0} (f : A → B) (g : B → A) (xs : List A) → ((x : A) → g (f x) ≡ x) → map g (map f xs) ≡ xs
+map_any f g [] h = refl
+map_any f g (x ∷ xs) h = rw (h x, map_any f g xs h)
+
+pub network_from-tree : (net : Network) → IsPrintable net → network_from (table (network_tree net)) ≡ net
+network_from-tree net p =
+    let s = section_tables net in
+    let links : map link_from (map link_tree net.links) ≡ net.links = map_any link_tree link_from net.links link_from-tree in
+    let link_names : names_of (map link_tree net.links) ≡ map (λ link. link.name) net.links = map-map link_tree (name_at (codes "name")) net.links in
+    let movement_names : names_of (map (movement_tree net) net.movements) ≡ map (λ m. m.name) net.movements = map-map (movement_tree net) (name_at (codes "name")) net.movements in
+    let movements : map (movement_from (map (λ link. link.name) net.links)) (map (movement_tree net) net.movements) ≡ net.movements =
+    map_each (HasEnds net) (movement_tree net) (movement_from (map (λ link. link.name) net.links)) net.movements (movement_from-tree net p) p.ends in
+    let junctions : map (junction_from (map (λ m. m.name) net.movements)) (map (junction_tree net) net.junctions) ≡ net.junctions =
+    map_each (λ j. AllByRecursion (AllByRecursion (IsMovement net)) j.stages) (junction_tree net) (junction_from (map (λ m. m.name) net.movements)) net.junctions (junction_from-tree net p) p.stages in
+    rw (s.0, s.1, s.2, links, link_names, movement_names, movements, junctions)

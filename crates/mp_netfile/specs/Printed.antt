@@ -1,0 +1,41 @@
+-- The tree that a network is printed as; each table's keys ascend.
+use Rattle.std.specs.Prelude.{ℕ, pos, List, map, Option, Some, None, codes}
+use Rattle.toml.specs.Data.{Data, string, integer, array, table, Members, no_members, member}
+use Rattle.toml.specs.View.{items_of}
+use Rattle.mp_model.specs.Network.{Link, Movement, Junction, Network, link_at, movement_at}
+
+-- This is a number as a value.
+abbrev pub number : ℕ → Data
+number n = integer (pos n)
+
+-- This is the table of a link.
+abbrev pub link_tree : Link → Data
+link_tree link = table (member (codes "burst") (number link.burst) (member (codes "name") (string link.name) (member (codes "rate") (number link.rate) no_members)))
+
+-- This is the name of a target.
+abbrev pub target_name : Network → Option ℕ → List ℕ
+target_name net None = codes "out"
+target_name net (Some l) = (link_at net l).name
+
+-- This is the table of a movement.
+abbrev pub movement_tree : Network → Movement → Data
+movement_tree net movement =
+    table (member (codes "flow") (number movement.flow) (member (codes "from") (string (link_at net movement.from).name) (member (codes "name") (string movement.name)
+    (member (codes "share") (number movement.share) (member (codes "to") (string (target_name net movement.to)) no_members)))))
+
+-- This is a stage as an array of names.
+abbrev pub stage_tree : Network → List ℕ → Data
+stage_tree net stage = array (items_of (map (λ k. string (movement_at net k).name) stage))
+
+-- This is the table of a junction.
+abbrev pub junction_tree : Network → Junction → Data
+junction_tree net junction =
+    table (member (codes "name") (string junction.name) (member (codes "stages") (array (items_of (map (stage_tree net) junction.stages))) no_members))
+
+-- This is the table of a network.
+abbrev pub network_tree : Network → Members
+network_tree net =
+    member (codes "junction") (array (items_of (map (junction_tree net) net.junctions)))
+    (member (codes "link") (array (items_of (map link_tree net.links)))
+    (member (codes "movement") (array (items_of (map (movement_tree net) net.movements)))
+    (member (codes "per") (number net.per) (member (codes "shares") (number net.shares) (member (codes "version") (number 1) no_members)))))

@@ -1,0 +1,14 @@
+//! The network file: from TOML to a network and back.
+#![tactic(auto)]
+
+mod keys;
+mod parts;
+mod print;
+mod read;
+mod tables;
+#[cfg(test)]
+mod tests;
+mod values;
+
+pub use print::print_net;
+pub use read::read_net;
