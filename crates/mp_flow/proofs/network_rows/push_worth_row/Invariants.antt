@@ -1,0 +1,6 @@
+use Rattle.mp_flow.specs.Systems.{worth_cell}
+use Rattle.mp_flow.proofs.RowLoopLemmas.{Lining}
+use Rattle.mp_flow.proofs.network_rows.push_worth_row.Given as goal
+
+abbrev pub invariant-loop-m : goal.invariant-loop-m
+invariant-loop-m l = Lining (worth_cell l.net l.l) l.fn.cells.items l.m l.cells.items
