@@ -7,5 +7,6 @@ mod period;
 mod stream_line;
 
 pub use end::put_end;
+pub use line::{push_number, push_text};
 pub use period::put_period;
 pub use stream_line::{StreamLine, read_line};

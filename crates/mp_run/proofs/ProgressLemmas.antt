@@ -92,7 +92,7 @@ progress_line net whole left left' cut new_cut was now now' old new n lines p cu
 
 -- the next line is too long
 pub progress_long : (net : Network) (whole left left' : Option (List ℕ)) (cut new_cut : Cut) (was now : Option (List ℕ)) (standing : Standing) (lines : ℕ)
-    → Progress net whole left cut.held was now standing lines → Tells left left' (Cuts 2049 TooLong cut new_cut) → RefusedAt net long_line (lines + 1) whole left' was now
+    → Progress net whole left cut.held was now standing lines → Tells left left' (Cuts 2049 TooLong cut new_cut) → RefusedAt net [] long_line (lines + 1) whole left' was now
 progress_long net whole left left' cut new_cut was now standing lines p cuts = record {
   kinds = p.kinds;
   number = ap (λ n. n + 1) (sym p.count);
@@ -103,7 +103,7 @@ progress_long net whole left left' cut new_cut was now standing lines p cuts = r
 
 -- the source met a fault
 pub progress_failed : (net : Network) (whole left left' : Option (List ℕ)) (cut new_cut : Cut) (was now : Option (List ℕ)) (standing : Standing) (lines : ℕ)
-    → Progress net whole left cut.held was now standing lines → Tells left left' (Cuts 2049 Failed cut new_cut) → StopsReading net whole left' was now
+    → Progress net whole left cut.held was now standing lines → Tells left left' (Cuts 2049 Failed cut new_cut) → StopsReading net [] whole left' was now
 progress_failed net whole left left' cut new_cut was now standing lines p cuts = record {
   kinds = p.kinds;
   read = Tells-then _ _ _ _ _ _ (λ text mid rest starts same. (plain_kinds net (new_cut.held ++ rest), subst (λ (t : List ℕ). StartsWith net text p.kinds (plain_kinds net t)) same starts)) p.to_come cuts;
@@ -111,7 +111,7 @@ progress_failed net whole left left' cut new_cut was now standing lines p cuts =
 
 -- a line is left after the last that may be taken
 pub progress_many : (net : Network) (whole left left' : Option (List ℕ)) (cut new_cut : Cut) (was now : Option (List ℕ)) (standing : Standing)
-    → Progress net whole left cut.held was now standing (2 ^ 48) → Tells left left' (Cuts 2049 Line cut new_cut) → HasTooMany net whole left' was now
+    → Progress net whole left cut.held was now standing (2 ^ 48) → Tells left left' (Cuts 2049 Line cut new_cut) → HasTooMany net [] whole left' was now
 progress_many net whole left left' cut new_cut was now standing p cuts = record {
   kinds = p.kinds;
   number = p.count;
@@ -119,7 +119,7 @@ progress_many net whole left left' cut new_cut was now standing p cuts = record 
   written = p.written }
 
 pub progress_many_long : (net : Network) (whole left left' : Option (List ℕ)) (cut new_cut : Cut) (was now : Option (List ℕ)) (standing : Standing)
-    → Progress net whole left cut.held was now standing (2 ^ 48) → Tells left left' (Cuts 2049 TooLong cut new_cut) → HasTooMany net whole left' was now
+    → Progress net whole left cut.held was now standing (2 ^ 48) → Tells left left' (Cuts 2049 TooLong cut new_cut) → HasTooMany net [] whole left' was now
 progress_many_long net whole left left' cut new_cut was now standing p cuts = record {
   kinds = p.kinds;
   number = p.count;
@@ -150,7 +150,7 @@ ends_there net whole left left' cut new_cut kinds to_come cuts =
 
 -- the end, and the end line or a prefix of it
 pub progress_end : (net : Network) (end : RunEnd) (whole left left' : Option (List ℕ)) (cut new_cut : Cut) (was now now' : Option (List ℕ)) (standing : Standing) (lines : ℕ)
-    → Progress net whole left cut.held was now standing lines → Tells left left' (Cuts 2049 End cut new_cut) → Finishes net end standing now now' → EndsAs net end whole left' was now'
+    → Progress net whole left cut.held was now standing lines → Tells left left' (Cuts 2049 End cut new_cut) → Finishes net end standing now now' → EndsAs net [] end whole left' was now'
 progress_end net Done whole left left' cut new_cut was now now' standing lines p cuts finishes = record {
   kinds = p.kinds;
   read = ends_there net whole left left' cut new_cut p.kinds p.to_come cuts;
@@ -170,7 +170,7 @@ progress_end net (Grammar n) whole left left' cut new_cut was now now' standing 
 -- the line of the period was cut short
 cut_at : (net : Network) (whole left : Option (List ℕ)) (held : List ℕ) (was now now' : Option (List ℕ)) (standing : Standing) (kinds : List LineKind) (kind : LineKind)
     → Stands net standing (state_after net (opening net) (arrivals_of_kinds kinds)) → Tells was now (λ before after. after ≡ before ++ text_of (period_lines net (arrivals_of_kinds kinds)))
-    → Tells whole left (λ text rest. StartsWith net text kinds (kind ∷ plain_kinds net (held ++ rest))) → CutsKind net kind standing now now' → StopsWriting net whole left was now'
+    → Tells whole left (λ text rest. StartsWith net text kinds (kind ∷ plain_kinds net (held ++ rest))) → CutsKind net kind standing now now' → StopsWriting net [] whole left was now'
 cut_at net whole left held was now now' standing kinds (arrivals_line counts) stands written told cut =
     let A = arrivals_of_kinds kinds in
     let line = text_of (line_after net (state_after net (opening net) A) counts ∷ []) in
@@ -189,7 +189,7 @@ cut_at net whole left held was now now' standing kinds (decide_line j) stands wr
 
 -- the run ends at a line
 pub progress_stop : (net : Network) (end : RunEnd) (whole left left' : Option (List ℕ)) (cut new_cut : Cut) (was now now' : Option (List ℕ)) (old new : Standing) (lines : ℕ)
-    → Progress net whole left cut.held was now old lines → Tells left left' (Cuts 2049 Line cut new_cut) → TakesLine net (without_events (plain_kind net new_cut.line)) (lines + 1) (Some end) old new now now' → EndsAs net end whole left' was now'
+    → Progress net whole left cut.held was now old lines → Tells left left' (Cuts 2049 Line cut new_cut) → TakesLine net (without_events (plain_kind net new_cut.line)) (lines + 1) (Some end) old new now now' → EndsAs net [] end whole left' was now'
 progress_stop net Write whole left left' cut new_cut was now now' old new lines p cuts takes =
     cut_at net whole left' new_cut.held was now now' old p.kinds (without_events (plain_kind net new_cut.line)) p.stands p.written (line_to_come net whole left left' cut new_cut p.kinds p.to_come cuts) takes
 progress_stop net (Grammar m) whole left left' cut new_cut was now now' old new lines p cuts takes = record {
@@ -202,3 +202,37 @@ progress_stop net Done whole left left' cut new_cut was now now' old new lines p
 progress_stop net Read whole left left' cut new_cut was now now' old new lines p cuts takes = absurd takes
 progress_stop net LineLimit whole left left' cut new_cut was now now' old new lines p cuts takes = absurd takes
 progress_stop net (Long m) whole left left' cut new_cut was now now' old new lines p cuts takes = absurd takes
+
+behind_head : (net : Network) (head : List ℕ) (kinds : List LineKind) (was mid now : Option (List ℕ)) → Tells was mid (λ before after. after ≡ before ++ head)
+    → Tells mid now (λ before after. after ≡ before ++ text_of (period_lines net (arrivals_of_kinds kinds))) → Tells was now (λ before after. after ≡ before ++ (head ++ text_of (period_lines net (arrivals_of_kinds kinds))))
+behind_head net head kinds was mid now put written =
+    let lines = text_of (period_lines net (arrivals_of_kinds kinds)) in
+    Tells-then _ _ _ _ _ _ (λ before middle after w e. e ∙ ap (λ xs. xs ++ lines) w ∙ append_assoc before head lines) put written
+
+-- a head before the text of the run
+pub with_head : (net : Network) (head : List ℕ) (end : RunEnd) (whole left was mid now : Option (List ℕ)) → Tells was mid (λ before after. after ≡ before ++ head) → EndsAs net [] end whole left mid now → EndsAs net head end whole left was now
+with_head net head Done whole left was mid now put ends = record {
+  kinds = ends.kinds; read = ends.read;
+  written = Tells-then _ _ _ _ _ _ (λ before middle after w e. e ∙ ap (λ xs. xs ++ run_text net (arrivals_of_kinds ends.kinds)) w ∙ append_assoc before head (run_text net (arrivals_of_kinds ends.kinds))) put ends.written }
+with_head net head Read whole left was mid now put ends = record {
+  kinds = ends.kinds; read = ends.read;
+  written = behind_head net head ends.kinds was mid now put ends.written }
+with_head net head Write whole left was mid now put ends = record {
+  kinds = ends.kinds; read = ends.read;
+  written = Tells-then _ _ _ _ _ _ (λ before middle after w gain. GainsPrefix-then head (run_text net (arrivals_of_kinds ends.kinds)) before middle after w gain) put ends.written }
+with_head net head LineLimit whole left was mid now put ends = record {
+  kinds = ends.kinds; number = ends.number; read = ends.read;
+  written = behind_head net head ends.kinds was mid now put ends.written }
+with_head net head (Long n) whole left was mid now put ends = record {
+  kinds = ends.kinds; number = ends.number; read = ends.read;
+  written = behind_head net head ends.kinds was mid now put ends.written }
+with_head net head (Grammar n) whole left was mid now put ends = record {
+  kinds = ends.kinds; number = ends.number; read = ends.read;
+  written = behind_head net head ends.kinds was mid now put ends.written }
+
+-- the head itself was cut short
+pub head_cut : (net : Network) (head : List ℕ) (whole was now : Option (List ℕ)) → Tells was now (GainsPrefix head) → StopsWriting net head whole whole was now
+head_cut net head whole was now cut = record {
+  kinds = [];
+  read = Tells-same whole _ (λ text. (plain_kinds net text, starts_empty net text));
+  written = Tells-weaker _ _ _ _ (λ before after gain. GainsPrefix-longer head (head ++ run_text net []) before after (run_text net [], refl) gain) cut }

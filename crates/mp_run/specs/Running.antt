@@ -26,46 +26,46 @@ pub record StartsWith (net : Network) (text : List ℕ) (kinds more : List LineK
   pub lines : plain_kinds net text ≡ kinds ++ more
   pub taken : AllByRecursion IsTaken kinds
 
--- The stream was read to its end, each of its lines was taken, and the text of the run over its arrivals was written.
-pub record Finished (net : Network) (whole left was now : Option (List ℕ)) : Type 0 where
+-- The stream was read to its end, each of its lines was taken, and behind the head the text of the run over its arrivals was written.
+pub record Finished (net : Network) (head : List ℕ) (whole left was now : Option (List ℕ)) : Type 0 where
   pub kinds : List LineKind
   pub read : Tells whole left (λ text rest. (rest ≡ []) × StartsWith net text kinds [])
-  pub written : Tells was now (λ before after. after ≡ before ++ run_text net (arrivals_of_kinds kinds))
+  pub written : Tells was now (λ before after. after ≡ before ++ (head ++ run_text net (arrivals_of_kinds kinds)))
 
--- The lines before line n were taken, line n is of this kind, and the lines of the periods before it were written.
-pub record RefusedAt (net : Network) (kind : LineKind) (n : ℕ) (whole left was now : Option (List ℕ)) : Type 0 where
+-- The lines before line n were taken, line n is of this kind, and behind the head the lines of the periods before it were written.
+pub record RefusedAt (net : Network) (head : List ℕ) (kind : LineKind) (n : ℕ) (whole left was now : Option (List ℕ)) : Type 0 where
   pub kinds : List LineKind
   pub number : n ≡ length kinds + 1
   pub read : Tells whole left (λ text rest. (more : List LineKind) × StartsWith net text kinds (kind ∷ more))
-  pub written : Tells was now (λ before after. after ≡ before ++ text_of (period_lines net (arrivals_of_kinds kinds)))
+  pub written : Tells was now (λ before after. after ≡ before ++ (head ++ text_of (period_lines net (arrivals_of_kinds kinds))))
 
--- The first 2^48 lines were taken, another line follows them, and the lines of their periods were written.
-pub record HasTooMany (net : Network) (whole left was now : Option (List ℕ)) : Type 0 where
+-- The first 2^48 lines were taken, another line follows them, and behind the head the lines of their periods were written.
+pub record HasTooMany (net : Network) (head : List ℕ) (whole left was now : Option (List ℕ)) : Type 0 where
   pub kinds : List LineKind
   pub number : length kinds ≡ 2 ^ 48
   pub read : Tells whole left (λ text rest. (kind : LineKind) × (more : List LineKind) × StartsWith net text kinds (kind ∷ more))
-  pub written : Tells was now (λ before after. after ≡ before ++ text_of (period_lines net (arrivals_of_kinds kinds)))
+  pub written : Tells was now (λ before after. after ≡ before ++ (head ++ text_of (period_lines net (arrivals_of_kinds kinds))))
 
--- The lines read so far were taken, and the lines of their periods were written.
-pub record StopsReading (net : Network) (whole left was now : Option (List ℕ)) : Type 0 where
+-- The lines read so far were taken, and behind the head the lines of their periods were written.
+pub record StopsReading (net : Network) (head : List ℕ) (whole left was now : Option (List ℕ)) : Type 0 where
   pub kinds : List LineKind
   pub read : Tells whole left (λ text rest. (more : List LineKind) × StartsWith net text kinds more)
-  pub written : Tells was now (λ before after. after ≡ before ++ text_of (period_lines net (arrivals_of_kinds kinds)))
+  pub written : Tells was now (λ before after. after ≡ before ++ (head ++ text_of (period_lines net (arrivals_of_kinds kinds))))
 
--- The lines read so far were taken, and a prefix of the text of the run over their arrivals was written.
-pub record StopsWriting (net : Network) (whole left was now : Option (List ℕ)) : Type 0 where
+-- The lines read so far were taken, and a prefix of the head and the text of the run over their arrivals was written.
+pub record StopsWriting (net : Network) (head : List ℕ) (whole left was now : Option (List ℕ)) : Type 0 where
   pub kinds : List LineKind
   pub read : Tells whole left (λ text rest. (more : List LineKind) × StartsWith net text kinds more)
-  pub written : Tells was now (GainsPrefix (run_text net (arrivals_of_kinds kinds)))
+  pub written : Tells was now (GainsPrefix (head ++ run_text net (arrivals_of_kinds kinds)))
 
--- This is what each end of a run says.
-abbrev pub EndsAs : Network → RunEnd → Option (List ℕ) → Option (List ℕ) → Option (List ℕ) → Option (List ℕ) → Type 0
-EndsAs net Done whole left was now = Finished net whole left was now
-EndsAs net Read whole left was now = StopsReading net whole left was now
-EndsAs net Write whole left was now = StopsWriting net whole left was now
-EndsAs net LineLimit whole left was now = HasTooMany net whole left was now
-EndsAs net (Long n) whole left was now = RefusedAt net long_line n whole left was now
-EndsAs net (Grammar n) whole left was now = RefusedAt net bad_line n whole left was now
+-- This is what each end of a run says, where a head stands before its text.
+abbrev pub EndsAs : Network → List ℕ → RunEnd → Option (List ℕ) → Option (List ℕ) → Option (List ℕ) → Option (List ℕ) → Type 0
+EndsAs net head Done whole left was now = Finished net head whole left was now
+EndsAs net head Read whole left was now = StopsReading net head whole left was now
+EndsAs net head Write whole left was now = StopsWriting net head whole left was now
+EndsAs net head LineLimit whole left was now = HasTooMany net head whole left was now
+EndsAs net head (Long n) whole left was now = RefusedAt net head long_line n whole left was now
+EndsAs net head (Grammar n) whole left was now = RefusedAt net head bad_line n whole left was now
 
 -- A period was closed with these counts, and its line was written.
 pub record Closed (net : Network) (counts : List ℕ) (old new : Standing) (was now : Option (List ℕ)) : Type 0 where

@@ -1,5 +1,5 @@
 //! A run over a stream.
-ghost use Rattle.std.specs.Prelude.{◌≡◌, ◌≤◌, ◌<◌, ◌+◌, ◌^◌, Some, length, All, OnOk, OnErr};
+ghost use Rattle.std.specs.Prelude.{◌≡◌, ◌≤◌, ◌<◌, ◌+◌, ◌^◌, [], Some, length, All, OnOk, OnErr};
 ghost use Rattle.mp_edge.specs.Outside.{Rose, HasCause};
 ghost use Rattle.mp_model.specs.Arrivals.{HasCounts};
 ghost use Rattle.mp_model.specs.Run.{opening};
@@ -114,7 +114,7 @@ pub fn run_stream<In: Source, Out: Sink>(
 ) -> RunEnd
     requires on { IsOn net.now state.old }
     requires start { Stands net.now state.old (opening net.now) }
-    ensures ends { EndsAs net.now result (In.left input.old) (In.left input.new) (Out.held out.old) (Out.held out.new) }
+    ensures ends { EndsAs net.now [] result (In.left input.old) (In.left input.new) (Out.held out.old) (Out.held out.new) }
     ensures in_later { In.faults input.old ≤ In.faults input.new }
     ensures out_later { Out.faults out.old ≤ Out.faults out.new }
     ensures read { result ≡ RunEnd.Read → Rose (In.faults input.old) (In.faults input.new) }

@@ -1,0 +1,6 @@
+pub mod Commands
+pub mod Statuses
+pub mod Messages
+pub mod Ends
+pub mod Opening
+pub mod Acts
