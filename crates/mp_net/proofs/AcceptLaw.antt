@@ -1,8 +1,7 @@
 -- Parts that break no rule give a network that can be accepted.
-use Rattle.std.proofs.Common.{◌≡◌, true, false, length, None, arith}
-use Rattle.std.specs.List.{AllByRecursion}
+use Rattle.std.proofs.Common.{◌≡◌, true, false, None}
 use Rattle.mp_model.specs.Names.{is_name, is_out}
-use Rattle.mp_model.specs.Network.{Network, Link, Movement, Junction, own}
+use Rattle.mp_model.specs.Network.{Network, Link}
 use Rattle.mp_model.specs.NetworkRules.{IsNetwork, IsInRange, HasNames, IsAcceptable}
 use Rattle.mp_net.specs.Named.{IsNamed}
 use Rattle.mp_net.specs.Spots.{first_broken}

@@ -1,5 +1,5 @@
 -- Where no rule is broken, each spot is none, and the other way round.
-use Rattle.std.proofs.Common.{◌≡◌, ℕ, Bool, true, false, List, [], ◌∷◌, Option, Some, None, Result, Ok, Err, OnOk, IfErr, IsOkUnless, refl, ap, sym, ◌∙◌}
+use Rattle.std.proofs.Common.{◌≡◌, ℕ, Bool, true, false, Option, Some, None, Result, Ok, Err, OnOk, IfErr, IsOkUnless, IsTrue, is_some, not, refl, ap, ◌∙◌}
 use Rattle.mp_model.specs.Network.{Network}
 use Rattle.mp_net.specs.Spots.{first_spot, or_later, first_broken}
 use Rattle.mp_net.specs.NumberRules.{bad_number, bad_link_name}
@@ -87,3 +87,14 @@ pub not_by_rule : (r : Result (Unit {0}) NetFault) (broken : Option (NetRule × 
 not_by_rule (Ok v) broken h none = tt
 not_by_rule (Err (Rule name spot)) broken h none = absurd (cc)
 not_by_rule (Err NoMemory) broken h none = refl
+
+-- a spot that is none, by its test
+pub none_from_test : (spot : Option Spot) (b : Bool) → is_some spot ≡ not b → IsTrue b → spot ≡ None
+none_from_test None b e t = refl
+none_from_test (Some spot) true e t = absurd (cc)
+none_from_test (Some spot) false e t = absurd (cc)
+
+pub test_from_none : (spot : Option Spot) (b : Bool) → is_some spot ≡ not b → spot ≡ None → IsTrue b
+test_from_none None true e none = refl
+test_from_none None false e none = absurd (cc)
+test_from_none (Some spot) b e none = absurd (cc)

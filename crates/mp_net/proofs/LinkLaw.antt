@@ -1,5 +1,5 @@
 -- What the rules on links say of a network.
-use Rattle.std.proofs.Common.{◌≡◌, ◌==◌, ◌&&◌, ◌||◌, ℕ, ◌+◌, ◌≤◌, ◌<◌, Bool, true, false, not, nat_le, length, Option, Some, None, IfSome, List, [], ◌∷◌, sum_by, refl, sym, ◌∙◌, inl, inr, arith}
+use Rattle.std.proofs.Common.{◌≡◌, ◌==◌, ◌&&◌, ℕ, ◌≤◌, Bool, true, false, not, nat_le, length, Option, Some, None, IfSome, List, [], ◌∷◌, sum_by, refl, sym, inl, inr, arith}
 use Rattle.std.specs.List.{AllByRecursion, list_any, find, filter}
 use Rattle.std.proofs.lemmas.List.Sums.{sum_by-cons}
 use Rattle.std.proofs.lemmas.Bool.{false≢true, and_parts, cases_Bool}
@@ -10,7 +10,7 @@ use Rattle.mp_net.specs.LinkRules.{link_is_there, goes_nowhere, names_unknown_li
 use Rattle.mp_net.specs.WayRules.{has_way_out, no_way_out}
 use Rattle.mp_net.specs.Marks.{HasItsLinks}
 use Rattle.mp_net.proofs.Broken.{no_spot, spot_none}
-use Rattle.mp_net.proofs.Lists.{none_passes, nothing_found, passing, passes, all_each, each_all, in_range, of_range, in_filter, of_filter, or_none}
+use Rattle.mp_net.proofs.Lists.{none_passes, nothing_found, passing, all_each, each_all, in_range, of_range, of_filter, or_none}
 use Rattle.mp_net.proofs.Ways.{chain_from_way, way_from_chain}
 
 pub not_false : (b : Bool) → not b ≡ false → b ≡ true
@@ -91,11 +91,11 @@ term_below f (x ∷ ks) k h =
 -- a share is at most the total
 pub few_shares : (net : Network) → HasItsLinks net → IsSplit net → AllByRecursion (λ k. share_of net k ≤ net.shares) (movement_numbers net)
 few_shares net there split = each_all (λ k. share_of net k ≤ net.shares) (movement_numbers net) (λ k h.
-  let l = from_of net k in
-  let link = all_each (λ i. has (link_numbers net) (from_of net i) ≡ true) (movement_numbers net) k there.from h in
-  let sum = all_each (λ m. sum_by (share_of net) (out_of net m) ≡ net.shares) (link_numbers net) l split link in
-  let self : (l == l) ≡ true = grind (arith, nat_tests) in
-  omega (arith, sum, term_below (share_of net) (out_of net l) k (of_filter (λ x. from_of net x == l) (movement_numbers net) k h self)))
+    let l = from_of net k in
+    let link = all_each (λ i. has (link_numbers net) (from_of net i) ≡ true) (movement_numbers net) k there.from h in
+    let sum = all_each (λ m. sum_by (share_of net) (out_of net m) ≡ net.shares) (link_numbers net) l split link in
+    let self : (l == l) ≡ true = grind (arith, nat_tests) in
+    omega (arith, sum, term_below (share_of net) (out_of net l) k (of_filter (λ x. from_of net x == l) (movement_numbers net) k h self)))
 
 -- a sum that is not 0 has a term
 some_term : (f : ℕ → ℕ) (p : ℕ → Bool) (ks : List ℕ) → 1 ≤ sum_by f (filter p ks) → list_any p ks ≡ true

@@ -1,12 +1,12 @@
 -- The marks of a round, and those after some rounds.
-use Rattle.std.proofs.Common.{◌≡◌, ◌==◌, ◌&&◌, ◌||◌, ℕ, zero, suc, ◌+◌, ◌-◌, ◌≤◌, ◌<◌, Bool, true, false, List, [], ◌∷◌, length, get_or, not, replicate, refl, ap, sym, ◌∙◌, inl, inr, add-one, arith, ◌≢◌, get_or-set_same, get_or-set_other}
+use Rattle.std.proofs.Common.{◌≡◌, ◌==◌, ◌&&◌, ◌||◌, ℕ, ◌+◌, ◌-◌, ◌≤◌, ◌<◌, Bool, true, false, List, [], length, not, replicate, refl, ap, sym, ◌∙◌, inl, inr, add-one, arith, ◌≢◌, get_or-set_same, get_or-set_other}
 use Rattle.std.specs.List.{find, list_any, range_with_len, slice_set}
 use Rattle.std.proofs.lemmas.Bool.{cases_Bool}
 use Rattle.std.proofs.lemmas.Bool.Decides.{nat_tests}
 use Rattle.std.proofs.lemmas.List.{length-replicate, get_or-replicate}
 use Rattle.std.proofs.Math.ListN.{length-set}
 use Rattle.mp_model.specs.Network.{Network, from_of, to_of, link_numbers, movement_numbers, has}
-use Rattle.mp_net.specs.WayRules.{goes_on, leads, leads_on, has_way, has_way_out}
+use Rattle.mp_net.specs.WayRules.{goes_on, leads, has_way, has_way_out}
 use Rattle.mp_net.specs.Marks.{is_marked, HasItsLinks, IsNextRound}
 use Rattle.mp_net.proofs.Lists.{in_range, of_range, all_each, list_any-range_more}
 use Rattle.mp_net.proofs.Ways.{Agree, leads_on-agree, find_agree}

@@ -1,10 +1,10 @@
 -- What the rules on names say of a network.
-use Rattle.std.proofs.Common.{◌≡◌, ◌||◌, ℕ, ◌+◌, ◌-◌, ◌≤◌, ◌<◌, Bool, true, false, List, [], length, get_or, map, Option, None, refl, sym, ◌∙◌, ap, arith}
+use Rattle.std.proofs.Common.{◌≡◌, ℕ, ◌+◌, ◌-◌, ◌<◌, Bool, true, false, List, [], length, get_or, map, None, refl, arith}
 use Rattle.std.specs.List.{AllByRecursion, IsDistinct, list_any, find, range_with_len}
 use Rattle.std.specs.Str.{bytes_eq}
 use Rattle.std.proofs.lemmas.List.{length-map, get_or-map}
-use Rattle.mp_model.specs.Names.{is_name, is_out}
-use Rattle.mp_model.specs.Network.{Network, Link, Movement, Junction, link_at, movement_at, junction_at, no_link, no_movement, no_junction, link_numbers, movement_numbers, junction_numbers, has}
+use Rattle.mp_model.specs.Names.{is_out}
+use Rattle.mp_model.specs.Network.{Network, Link, Movement, Junction, junction_at, no_link, no_movement, no_junction, link_numbers, movement_numbers, junction_numbers, has}
 use Rattle.mp_net.specs.NumberRules.{is_named_out, bad_link_name}
 use Rattle.mp_net.specs.RepeatRules.{link_is_repeated, movement_is_repeated, junction_is_repeated, junction_name_is_repeated, repeats_movement, repeated}
 use Rattle.mp_net.proofs.Broken.{no_spot, spot_none}

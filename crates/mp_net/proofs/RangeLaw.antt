@@ -1,8 +1,8 @@
 -- What the rules on numbers say of a network.
-use Rattle.std.proofs.Common.{◌≡◌, ◌||◌, ℕ, ◌*◌, ◌-◌, ◌≤◌, Bool, true, false, nat_lt, length, Option, None, refl, sym, ◌∙◌, arith}
+use Rattle.std.proofs.Common.{◌≡◌, ◌||◌, ℕ, ◌*◌, ◌≤◌, Bool, true, false, nat_lt, length, Option, None, refl, arith}
 use Rattle.std.specs.List.{AllByRecursion, find}
 use Rattle.std.proofs.lemmas.Bool.Decides.{nat_tests}
-use Rattle.mp_model.specs.Network.{Network, Link, Movement, Junction, link_at, movement_at, junction_at, share_of, flow_of, no_link, no_movement, no_junction, link_numbers, movement_numbers, junction_numbers, has}
+use Rattle.mp_model.specs.Network.{Network, Link, Movement, Junction, link_at, junction_at, share_of, flow_of, no_link, no_movement, no_junction, link_numbers, movement_numbers, junction_numbers, has}
 use Rattle.mp_net.specs.NumberRules.{outside, top_has_bad_number, link_has_bad_number, movement_has_bad_number, junction_has_bad_number, bad_number}
 use Rattle.mp_net.proofs.Broken.{no_spot, spot_none}
 use Rattle.mp_net.proofs.Lists.{none_passes, nothing_found, all_each, each_all, or_none}

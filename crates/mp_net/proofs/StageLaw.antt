@@ -1,5 +1,5 @@
 -- What the rules on stages say of a network.
-use Rattle.std.proofs.Common.{◌≡◌, ◌≢◌, ◌==◌, ◌&&◌, ◌||◌, not, ℕ, ◌+◌, ◌-◌, ◌≤◌, ◌<◌, ◌⊎◌, Bool, true, false, cond, nat_le, nat_lt, List, [], ◌∷◌, length, get_or, Option, None, sum_by, refl, sym, ◌∙◌, ap, subst, inl, inr, arith}
+use Rattle.std.proofs.Common.{◌≡◌, ◌==◌, ◌&&◌, ◌||◌, not, ℕ, ◌+◌, ◌-◌, ◌≤◌, ◌<◌, Bool, true, false, cond, nat_le, nat_lt, List, [], ◌∷◌, length, get_or, None, sum_by, refl, sym, ◌∙◌, ap, subst, inl, inr, arith}
 use Rattle.std.specs.List.{AllByRecursion, IsDistinct, list_any, find, range_with_len}
 use Rattle.std.proofs.lemmas.Bool.{false≢true, and_parts, cases_Bool, cases_lt}
 use Rattle.std.proofs.lemmas.Bool.Decides.{nat_tests}
@@ -8,10 +8,10 @@ use Rattle.mp_model.specs.NetworkRules.{HasStages, IsTogether}
 use Rattle.mp_net.specs.RepeatRules.{movement_is_there, repeats_movement}
 use Rattle.mp_net.specs.StageRules.{names_unknown_movement, leaves_link, serves_link, is_served_twice, has_bad_stage, bad_stage, is_unserved, unserved}
 use Rattle.mp_net.specs.Marks.{HasItsLinks}
-use Rattle.mp_net.proofs.Broken.{no_spot, spot_none}
+use Rattle.mp_net.proofs.Broken.{no_spot}
 use Rattle.mp_net.proofs.LinkLaw.{not_false}
-use Rattle.mp_net.proofs.Lists.{none_passes, none_asked, nothing_found, nothing_asked, passing, passes, all_each, each_all, in_range, of_range, in_filter, of_filter, or_none, none_in, in_none, all_more, all_both, any_more, passing_in}
-use Rattle.mp_net.proofs.Places.{entries_from_numbers, entry_at, holder_at, once_counted, apart_from_count, counted_place, one_counted}
+use Rattle.mp_net.proofs.Lists.{none_passes, none_asked, passing, passes, all_each, each_all, in_range, of_range, in_filter, or_none, none_in, in_none, all_more, all_both, any_more}
+use Rattle.mp_net.proofs.Places.{entries_from_numbers, holder_at, once_counted}
 
 -- ---- movements that are there
 

@@ -1,10 +1,10 @@
 -- Chains of movements to the outside, and as many rounds as there are links.
-use Rattle.std.proofs.Common.{◌≡◌, ℕ, zero, suc, ◌+◌, ◌-◌, ◌≤◌, ◌<◌, ◌==◌, ◌&&◌, ◌⊎◌, Bool, true, false, List, [], ◌∷◌, length, Option, Some, None, IfSome, not, refl, ap, sym, ◌∙◌, inl, inr, arith}
+use Rattle.std.proofs.Common.{◌≡◌, ℕ, zero, suc, ◌+◌, ◌-◌, ◌≤◌, ◌==◌, ◌⊎◌, Bool, true, false, List, [], ◌∷◌, length, Option, Some, None, IfSome, not, refl, sym, ◌∙◌, inl, inr, arith}
 use Rattle.std.specs.List.{list_any, filter, find, range_with_len, AllByRecursion}
 use Rattle.std.proofs.lemmas.Bool.{and_parts, false≢true, cases_Bool}
 use Rattle.std.proofs.lemmas.Bool.Decides.{nat_tests}
 use Rattle.std.proofs.lemmas.List.FromFn.{length-range_with_len}
-use Rattle.mp_model.specs.Network.{Network, from_of, to_of, out_of, movement_numbers, link_numbers, has}
+use Rattle.mp_model.specs.Network.{Network, from_of, to_of, movement_numbers, link_numbers, has}
 use Rattle.mp_model.specs.WayOut.{LeadsOut, HasWayOut}
 use Rattle.mp_net.specs.WayRules.{goes_on, leads, leads_on, has_way, has_way_out}
 use Rattle.mp_net.specs.Marks.{HasItsLinks, IsFirstWithoutWay}

@@ -7,6 +7,8 @@ mod fault;
 mod net;
 mod outlets;
 mod parts;
+#[cfg(test)]
+mod rule_tests;
 mod rules;
 mod tables;
 #[cfg(test)]
@@ -20,4 +22,5 @@ pub use outlets::way_out;
 pub use parts::{
     JunctionNo, JunctionPart, LinkNo, LinkPart, MovementNo, MovementPart, Name, NetParts, StageNo,
 };
+pub use rules::links::links_are_there;
 pub use rules::spot::first_spot;

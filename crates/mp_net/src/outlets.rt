@@ -49,8 +49,7 @@ fn from_of(parts: &NetParts, k: usize) -> LinkNo
 
 /// The marks after one more round.
 fn next_marks(alloc: Global, parts: &NetParts, marks: &[bool]) -> Result<Vec<bool>, NoMemory>
-    requires few { length parts.now.movements.items ≤ 2 ^ 31 }
-    requires links { HasItsLinks (network_of parts.now) }
+    requires { HasItsLinks (network_of parts.now) }
     ensures { IfOk result (λ next. IsNextRound (network_of parts.now) marks.now next.items) }
 {
     let mut next = vec![in alloc; false; parts.links.len()]?;
@@ -72,7 +71,7 @@ fn first_unmarked(marks: &[bool], links: usize) -> Option<LinkNo>
 
 /// Marks each link with a way out, in as many rounds as there are links.
 fn first_without_way(alloc: Global, parts: &NetParts) -> Result<Option<LinkNo>, NoMemory>
-    requires few { (length parts.now.links.items ≤ 128) × (length parts.now.movements.items ≤ 2 ^ 31) }
+    requires few { length parts.now.links.items ≤ 128 }
     requires links { HasItsLinks (network_of parts.now) }
     ensures found { IfOk result (λ found. found ≡ find (λ l. not (has_way_out (network_of parts.now) l)) (link_numbers (network_of parts.now))) }
     ensures first { IfOk result (IsFirstWithoutWay (network_of parts.now)) }
@@ -88,7 +87,7 @@ fn first_without_way(alloc: Global, parts: &NetParts) -> Result<Option<LinkNo>, 
 /// The least link from which no chain of movements leads to the outside.
 /// Refuses only where memory can't be had.
 pub fn way_out(alloc: Global, parts: &NetParts) -> Result<Option<LinkNo>, NoMemory>
-    requires few { (length parts.now.links.items ≤ 128) × (length parts.now.movements.items ≤ 2 ^ 31) }
+    requires few { length parts.now.links.items ≤ 128 }
     requires links { HasItsLinks (network_of parts.now) }
     ensures { IfOk result (IsFirstWithoutWay (network_of parts.now)) }
 {
@@ -97,7 +96,7 @@ pub fn way_out(alloc: Global, parts: &NetParts) -> Result<Option<LinkNo>, NoMemo
 
 /// The first link without a way out.
 pub(crate) fn no_way_out(alloc: Global, parts: &NetParts) -> Result<Option<Spot>, NoMemory>
-    requires few { (length parts.now.links.items ≤ 128) × (length parts.now.movements.items ≤ 2 ^ 31) }
+    requires few { length parts.now.links.items ≤ 128 }
     requires links { HasItsLinks (network_of parts.now) }
     ensures { IfOk result (λ spot. spot ≡ no_way_out (network_of parts.now)) }
 {

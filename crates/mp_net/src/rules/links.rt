@@ -1,9 +1,10 @@
 //! The rules on links, and on the movements out of them.
-ghost use Rattle.std.specs.Prelude.{◌≡◌, ◌==◌, ◌≤◌, ◌<◌, ◌*◌, ◌^◌, not, length, sum_by};
+ghost use Rattle.std.specs.Prelude.{◌≡◌, ◌==◌, ◌≤◌, ◌<◌, ◌*◌, ◌^◌, ◌↔◌, not, length, sum_by, IsTrue};
 ghost use Rattle.std.specs.List.{find, list_any};
 ghost use Rattle.mp_model.specs.Network.{link_at, from_of, share_of, out_of, is_fed, link_numbers, movement_numbers};
 ghost use Rattle.mp_net.specs.Parts.{network_of};
 ghost use Rattle.mp_net.specs.Small.{IsSmall};
+ghost use Rattle.mp_net.specs.Marks.{HasItsLinks};
 ghost use Rattle.mp_net.specs.LinkRules.{link_is_there, goes_nowhere, names_unknown_link, unknown_link, has_movement, has_bad_shares, bad_shares, no_movement_out, no_fed_link};
 
 use crate::rules::spot::first_spot;
@@ -33,7 +34,7 @@ fn names_unknown_link(parts: &NetParts, k: u32) -> bool
 }
 
 fn first_with_unknown_link(parts: &NetParts) -> Option<u32>
-    requires { IsSmall parts.now }
+    requires { length parts.now.movements.items ≤ 512 }
     ensures { result ≡ find (names_unknown_link (network_of parts.now)) (movement_numbers (network_of parts.now)) }
 {
     (1..parts.movements.len() as u32 + 1).find(|k| names_unknown_link(parts, *k))
@@ -41,10 +42,18 @@ fn first_with_unknown_link(parts: &NetParts) -> Option<u32>
 
 /// The first movement that names a link that is not there.
 pub fn unknown_link(parts: &NetParts) -> Option<Spot>
-    requires { IsSmall parts.now }
+    requires { length parts.now.movements.items ≤ 512 }
     ensures { result ≡ unknown_link (network_of parts.now) }
 {
     first_spot(false, None, first_with_unknown_link(parts), None)
+}
+
+/// Each movement comes from a link that is there, and goes to one or to the outside.
+pub fn links_are_there(parts: &NetParts) -> bool
+    requires { length parts.now.movements.items ≤ 512 }
+    ensures { IsTrue result ↔ HasItsLinks (network_of parts.now) }
+{
+    unknown_link(parts).is_none()
 }
 
 fn leaves(parts: &NetParts, l: u32, k: u32) -> bool

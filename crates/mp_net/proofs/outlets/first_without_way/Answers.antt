@@ -1,9 +1,6 @@
-use Rattle.std.proofs.Common.{◌≡◌, ◌∙◌, length, sym, not, arith}
+use Rattle.std.proofs.Common.{◌≡◌, ◌∙◌, length, sym, arith}
 use Rattle.std.proofs.lemmas.List.{length-map}
-use Rattle.std.specs.List.{find}
-use Rattle.mp_model.specs.Network.{link_numbers}
 use Rattle.mp_net.specs.Parts.{network_of}
-use Rattle.mp_net.specs.WayRules.{has_way_out}
 use Rattle.mp_net.proofs.Marks.{marks-more, marks-end}
 use Rattle.mp_net.proofs.Ways.{first_without_way}
 use Rattle.mp_net.proofs.outlets.first_without_way.Goals as goal
