@@ -6,3 +6,6 @@ mod passing;
 mod state;
 
 pub use state::State;
+
+#[cfg(test)]
+mod tests;
