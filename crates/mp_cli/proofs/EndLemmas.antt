@@ -42,7 +42,7 @@ long_refused files name told = OfFile-weaker files name (λ bytes. 1048576 < len
 pub network_read : (files : Files) (name into : List ℕ) (net : Network) → OfFile files name (λ bytes. (into ≡ bytes) × (length bytes ≤ 1048576)) → file_meaning into ≡ Ok net → OfNetwork files name (λ n. n ≡ net)
 network_read files name into net told is =
     OfFile-weaker files name (λ bytes. (into ≡ bytes) × (length bytes ≤ 1048576)) (λ bytes. (n : Network) × (file_meaning bytes ≡ Ok n) × (n ≡ net))
-        (λ bytes read. (net, ap file_meaning (sym read.0) ∙ is, refl)) told
+    (λ bytes read. (net, ap file_meaning (sym read.0) ∙ is, refl)) told
 
 pub rule_read : (files : Files) (name into : List ℕ) (broken : NetRule) (spot : Spot) → OfFile files name (λ bytes. (into ≡ bytes) × (length bytes ≤ 1048576)) → file_meaning into ≡ Err (broken, spot)
     → OfFile files name (λ bytes. file_meaning bytes ≡ Err (broken, spot))
@@ -53,7 +53,7 @@ rule_read files name into broken spot told is =
 of_network : (files : Files) (name : List ℕ) (net : Network) (P : Network → Type 0) → OfNetwork files name (λ n. n ≡ net) → P net → OfNetwork files name P
 of_network files name net P opened is =
     OfFile-weaker files name (λ bytes. (n : Network) × (file_meaning bytes ≡ Ok n) × (n ≡ net)) (λ bytes. (n : Network) × (file_meaning bytes ≡ Ok n) × P n)
-        (λ bytes o. (o.0, o.1, subst P (sym o.2) is)) opened
+    (λ bytes o. (o.0, o.1, subst P (sym o.2) is)) opened
 
 pub run_means : (outcome : Outcome) (files : Files) (name : List ℕ) (net : Network) (left rest was now : Option (List ℕ)) → OfNetwork files name (λ n. n ≡ net) → RunMeans outcome net left rest was now → Means outcome Run files name left rest was now
 run_means Done files name net left rest was now opened is = of_network files name net (λ n. RunMeans Done n left rest was now) opened is

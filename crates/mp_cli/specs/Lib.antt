@@ -4,3 +4,4 @@ pub mod Messages
 pub mod Ends
 pub mod Opening
 pub mod Acts
+pub mod Complete

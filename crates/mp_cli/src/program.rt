@@ -1,9 +1,10 @@
 //! The top call.
-ghost use Rattle.std.specs.Prelude.{◌≡◌, ◌≤◌, ◌↔◌, IfOk, IfErr, Ok, Err, map, string_bytes};
+ghost use Rattle.std.specs.Prelude.{◌≡◌, ◌≤◌, ◌⊎◌, ◌↔◌, IfOk, IfErr, Ok, Err, map, string_bytes};
 ghost use Rattle.mp_edge.specs.Outside.{Rose, Tells};
 ghost use Rattle.mp_cli.specs.Commands.{command_of, name_of};
 ghost use Rattle.mp_cli.specs.Ends.{OfNetwork, IsUntouched, Means, Does, IsCutShort, Reports, IsEnd};
 ghost use Rattle.mp_cli.specs.Acts.{outcome_of, RunMeans, ShowMeans};
+ghost use Rattle.mp_cli.specs.Complete.{IsGoodFile, IsGoodStream};
 ghost use Rattle.mp_cli.specs.Opening.{IsRefusal};
 
 use crate::command::{Command, command_of};
@@ -63,12 +64,7 @@ fn outcome_of(end: RunEnd) -> Outcome
 }
 
 // Writes the log of the stream's run. All memory is taken before the first byte is put.
-fn run<In: Source, Out: Sink>(
-    alloc: Global,
-    net: &Net,
-    input: &mut In,
-    out: &mut Out,
-) -> Outcome
+fn run<In: Source, Out: Sink>(alloc: Global, net: &Net, input: &mut In, out: &mut Out) -> Outcome
     ensures runs { RunMeans result net.now (In.left input.old) (In.left input.new) (Out.held out.old) (Out.held out.new) }
     ensures in_later { In.faults input.old ≤ In.faults input.new }
     ensures out_later { Out.faults out.old ≤ Out.faults out.new }
@@ -164,6 +160,16 @@ pub fn top<St: Store, In: Source, Out: Sink, Er: Sink>(
     ensures store { result ≡ 2 → Rose (St.faults store.old) (St.faults store.new) }
     ensures read { result ≡ 10 → Rose (In.faults input.old) (In.faults input.new) }
     ensures write { result ≡ 11 → Rose (Out.faults out.old) (Out.faults out.new) }
+
+    // Where nothing is wrong outside, all is done, or memory was wanting.
+    ensures complete_run { command_of (map string_bytes words.now) ≡ Command.Run →
+        (file : IsGoodFile (St.files store.old) (name_of (map string_bytes words.now))) → IsGoodStream file.net (In.left input.old) →
+        ¬ Rose (St.faults store.old) (St.faults store.new) → ¬ Rose (In.faults input.old) (In.faults input.new) → ¬ Rose (Out.faults out.old) (Out.faults out.new) →
+        (result ≡ 0) ⊎ (result ≡ 12) }
+    ensures complete_show { command_of (map string_bytes words.now) ≡ Command.Show →
+        IsGoodFile (St.files store.old) (name_of (map string_bytes words.now)) →
+        ¬ Rose (St.faults store.old) (St.faults store.new) → ¬ Rose (Out.faults out.old) (Out.faults out.new) →
+        (result ≡ 0) ⊎ (result ≡ 12) }
 {
     let name = name_of(words);
     let outcome = obey(alloc, command_of(words), name, store, input, out);

@@ -103,7 +103,7 @@ special-leaves delim multi text =
     leaves_either (length text) (first text == delim) (if multi then at_delims delim text else Some (None, drop 1 text)) _
     (leaves_either (length text) multi (at_delims delim text) (Some (None, drop 1 text)) (at_delims-leaves delim text) ended)
     (leaves_either (length text) (first text == 92) (option_map (λ p. (Some p.0, p.1)) (escape multi (drop 1 text))) (if multi && starts_newline text then Some (Some (first text ∷ []), drop 1 text) else None)
-      slash (leaves_either (length text) (multi && starts_newline text) (Some (Some (first text ∷ []), drop 1 text)) None newline (record { few = tt })))
+    slash (leaves_either (length text) (multi && starts_newline text) (Some (Some (first text ∷ []), drop 1 text)) None newline (record { few = tt })))
 
 piece-leaves : (m : ℕ) (more : List ℕ → Read (List ℕ)) (o : Option (List ℕ)) (rest : List ℕ) → length rest ≤ m → ((text : List ℕ) → Leaves (length text) (more text)) → Leaves m (after_piece more o rest)
 piece-leaves m more None rest few h = record { few = few }

@@ -45,7 +45,7 @@ read_items-few val (suc n) found text =
     let P : Items × List ℕ → Type 0 = λ p. length (items_list p.0) ≤ length (items_list found) + suc n in
     if_either P (first start == 93) (Some (found, drop 1 start)) (option_and_then (λ v. option_and_then (read_items val n (push_item found v.0)) (after_element 93 v.1)) (val start)) (omega arith)
     (then_any P (val start) (λ v. option_and_then (read_items val n (push_item found v.0)) (after_element 93 v.1))
-      (λ v. then_any P (after_element 93 v.1) (read_items val n (push_item found v.0)) (λ rest. one_more v.0 rest (read_items-few val n (push_item found v.0) rest))))
+    (λ v. then_any P (after_element 93 v.1) (read_items val n (push_item found v.0)) (λ rest. one_more v.0 rest (read_items-few val n (push_item found v.0) rest))))
   where
     one_more : (d : Data) (rest : List ℕ) → AtMost (length (items_list (push_item found d)) + n) (read_items val n (push_item found d) rest) → IfSome (read_items val n (push_item found d) rest) (λ p. length (items_list p.0) ≤ length (items_list found) + suc n)
     one_more d rest h = weaken (read_items val n (push_item found d) rest) h
@@ -92,7 +92,7 @@ val-narrow (suc depth) text =
     if_either P (first text == 91) (option_map (λ p. (array p.0, p.1)) (read_items (val depth) (length text) no_items (drop 1 text))) _
     (narrow_array (length text) (read_items (val depth) (length text) no_items (drop 1 text)) (from_none (read_items-few (val depth) (length text) no_items (drop 1 text))))
     (if_either P (first text == 123) (option_map (λ p. (table p.0, p.1)) (members (val depth) (length text) no_nodes (drop 1 text))) (atom text)
-      (narrow_table (length text) (members (val depth) (length text) no_nodes (drop 1 text))) (atom-narrow (length text) text))
+    (narrow_table (length text) (members (val depth) (length text) no_nodes (drop 1 text))) (atom-narrow (length text) text))
   where
     from_none : AtMost (0 + length text) (read_items (val depth) (length text) no_items (drop 1 text)) → AtMost (length text) (read_items (val depth) (length text) no_items (drop 1 text))
     from_none h = let e : 0 + length text ≡ length text = omega arith in rw e at h
@@ -263,8 +263,8 @@ expression-few text =
     if_either P (first text == 91 && slice_index text 1 == 91) (option_and_then (λ k. option_map (λ rest. ((k.0, array_table), rest)) (after_byte 93 k.1)) (header_key (drop 2 text))) _
     (then_any P (header_key (drop 2 text)) (λ k. option_map (λ rest. ((k.0, array_table), rest)) (after_byte 93 k.1)) (λ k. if_mapped P (λ rest. ((k.0, array_table), rest)) (λ rest. Unit {0}) (after_byte 93 k.1) (if_any (after_byte 93 k.1)) (λ rest u. tt)))
     (if_either P (first text == 91) (option_map (λ p. ((p.0, std_table), p.1)) (header_key (drop 1 text))) (option_map (λ p. ((p.0.0, key_value p.0.1), p.1)) (keyval (val 80) text))
-      (if_mapped P (λ p. ((p.0, std_table), p.1)) (λ p. Unit {0}) (header_key (drop 1 text)) (if_any (header_key (drop 1 text))) (λ p u. tt))
-      (if_mapped P (λ p. ((p.0.0, key_value p.0.1), p.1)) (λ p. width p.0.1 ≤ length text) (keyval (val 80) text) (keyval-narrow 80 text) (λ p h. h)))
+    (if_mapped P (λ p. ((p.0, std_table), p.1)) (λ p. Unit {0}) (header_key (drop 1 text)) (if_any (header_key (drop 1 text))) (λ p u. tt))
+    (if_mapped P (λ p. ((p.0.0, key_value p.0.1), p.1)) (λ p. width p.0.1 ≤ length text) (keyval (val 80) text) (keyval-narrow 80 text) (λ p h. h)))
 
 line-few : (text : List ℕ) → ReadsFew (length text) (line text)
 unfolding line
@@ -286,7 +286,7 @@ lines-narrow zero m doc text h short = tt
 lines-narrow (suc n) m doc text h short =
     if_either (IsNarrow (m + suc n)) (length (skip_blank text) == 0) (Some doc) (option_and_then (λ e. option_and_then (λ next. lines n next e.1) (define doc e.0)) (line (skip_blank text))) (narrow_more m (m + suc n) doc.0 (omega arith) h)
     (after_line m n doc (line (skip_blank text)) h (leaves_more (length (skip_blank text)) m (line (skip_blank text)) (omega (arith, skip_blank-within text)) (line-leaves (skip_blank text)))
-      (read_more (length (skip_blank text)) m (line (skip_blank text)) (omega (arith, skip_blank-within text)) (line-few (skip_blank text))) (lines-narrow n (m + 1)))
+    (read_more (length (skip_blank text)) m (line (skip_blank text)) (omega (arith, skip_blank-within text)) (line-few (skip_blank text))) (lines-narrow n (m + 1)))
   where
     read_more : (a b : ℕ) (o : Read Expression) → a ≤ b → ReadsFew a o → ReadsFew b o
     read_more a b None few h = tt

@@ -13,4 +13,4 @@ pub returns-clause-runs : goal.returns-clause-runs
 returns-clause-runs g c =
     let ends = with_head c.args.net.now head c.run_stream.result (g.In.Source.left c.args.input.now) (g.In.Source.left c.run_stream.new.input) (g.Out.Sink.held c.args.out.now) (g.Out.Sink.held c.put.new.self) (g.Out.Sink.held c.run_stream.new.out) c.in_default-put.ensures.bytes c.run_stream.ensures.ends in
     subst (λ (outcome : Outcome). RunMeans outcome c.args.net.now (g.In.Source.left c.args.input.now) (g.In.Source.left c.run_stream.new.input) (g.Out.Sink.held c.args.out.now) (g.Out.Sink.held c.run_stream.new.out)) (sym c.outcome_of.ensures)
-        (run_ends c.run_stream.result c.args.net.now _ _ _ _ ends)
+    (run_ends c.run_stream.result c.args.net.now _ _ _ _ ends)
