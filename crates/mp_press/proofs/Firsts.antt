@@ -1,11 +1,11 @@
 -- Steps of the search for the greatest stage.
-use Rattle.std.proofs.Common.{◌≡◌, ◌≤◌, ◌<◌, ℕ, zero, suc, ◌+◌, ◌-◌, ◌*◌, List, [], ◌∷◌, ◌++◌, length, get_or, take, map, sum_by, ℤ, pos, int_lt, cond, true, false, ◌≤ℤ◌, arith, refl, sym, ◌∙◌, ap, ap₂, add-one, drop-cons}
+use Rattle.std.proofs.Common.{◌≡◌, ◌≤◌, ◌<◌, ℕ, zero, suc, ◌+◌, List, [], ◌∷◌, ◌++◌, length, get_or, take, map, sum_by, ℤ, pos, int_lt, cond, true, false, ◌≤ℤ◌, arith, refl, sym, ◌∙◌, ap, add-one}
 use Rattle.std.specs.List.{range_with_len, best_of, AllByRecursion}
 use Rattle.std.proofs.lemmas.Int.{ints}
 use Rattle.std.proofs.lemmas.List.FromFn.{length-range_with_len}
 use Rattle.std.proofs.lemmas.List.Sums.{fold_push}
 use borrow.Author.Differences.{true_is_lt, false_is_lt}
-use Rattle.mp_model.specs.Network.{Network, Junction, numbers_to, no_junction, junction_at, stage_at, stage_numbers, entry}
+use Rattle.mp_model.specs.Network.{Network, Junction, numbers_to, no_junction, stage_at, stage_numbers, entry}
 use Rattle.mp_model.specs.Split.{first_greatest}
 use Rattle.mp_model.specs.Pressure.{pressure_by, greatest_stage_by, IsGreatestStageBy, AllGreatest}
 use Rattle.mp_model.specs.Step.{AreStages}

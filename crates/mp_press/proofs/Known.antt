@@ -1,12 +1,12 @@
 -- What the rules of a network say of the numbers in its lists.
-use Rattle.std.proofs.Common.{◌≡◌, ◌==◌, ◌≤◌, ◌<◌, ℕ, zero, suc, ◌+◌, ◌-◌, Bool, true, false, cond, List, [], ◌∷◌, length, get_or, filter, sum_by, Option, None, Some, IfSome, arith, refl, sym, ◌∙◌, ap, subst, eq-eqb}
-use Rattle.std.specs.List.{AllByRecursion, All, IsDistinct, range_with_len, list_any}
+use Rattle.std.proofs.Common.{◌≡◌, ◌==◌, ◌≤◌, ℕ, suc, ◌+◌, ◌-◌, Bool, true, false, cond, List, [], ◌∷◌, length, get_or, filter, sum_by, Option, None, Some, IfSome, arith, refl, ap, subst, eq-eqb}
+use Rattle.std.specs.List.{AllByRecursion, All, IsDistinct}
 use Rattle.std.specs.List.Sorted.{IsStrictlyIncreasing}
 use Rattle.std.proofs.lemmas.List.Elements.{All-from_recursion}
 use Rattle.std.proofs.lemmas.List.Kept.{IsStrictlyIncreasing-filter}
 use Rattle.std.proofs.lemmas.List.FromFn.{length-range_with_len, get_or-range_with_len}
 use Rattle.std.proofs.lemmas.List.Sums.{sum_by-cons}
-use Rattle.mp_model.specs.Network.{Network, Junction, movement_numbers, link_numbers, numbers_to, has, junction_at, stage_at, no_junction, no_movement, out_of, into_link, from_of, to_of, share_of, flow_of, goes_to, own, next, targets, stands_in}
+use Rattle.mp_model.specs.Network.{Network, movement_numbers, link_numbers, numbers_to, has, junction_at, stage_at, no_junction, no_movement, out_of, from_of, to_of, share_of, flow_of, own, stands_in}
 use Rattle.mp_model.specs.NetworkRules.{IsNetwork, IsInRange, HasStages}
 use Rattle.mp_laws.proofs.Lists.{AllOf-map}
 use Rattle.mp_laws.proofs.Lists.{at_index}
@@ -75,9 +75,6 @@ some_stage net ok j low high = all_at (λ j. 1 ≤ length j.stages) net.junction
 
 -- the stages of a junction
 module _ (net : Network) (ok : IsNetwork net) where
-  Stage : List ℕ → Type 0
-  Stage stage = IsDistinct ◌==◌ stage × AllByRecursion (λ k. has (movement_numbers net) k ≡ true) stage
-
   stages_of : (i : ℕ) → AllByRecursion (λ stage. IsDistinct ◌==◌ stage × AllByRecursion (λ k. has (movement_numbers net) k ≡ true) stage) (get_or net.junctions i no_junction).stages
   stages_of i = at_index (HasStages net) no_junction net.junctions i ok.stages tt
 

@@ -1,10 +1,8 @@
 -- Steps of loops that sum.
-use Rattle.std.proofs.Common.{◌≡◌, ◌≤◌, ◌<◌, ℕ, zero, suc, ◌+◌, ◌-◌, ◌*◌, ◌^◌, List, [], ◌∷◌, ◌++◌, length, get_or, take, map, sum_by, arith, refl, sym, ◌∙◌, ap, add-one, mul-le-mul, ℤ}
-use Rattle.std.specs.Prelude.{unsigned_abs}
+use Rattle.std.proofs.Common.{◌≡◌, ◌≤◌, ◌<◌, ℕ, zero, suc, ◌+◌, ◌-◌, ◌*◌, ◌^◌, List, [], ◌∷◌, ◌++◌, length, get_or, take, sum_by, arith, ◌∙◌, ap, add-one, mul-le-mul, ℤ}
 use Rattle.std.specs.List.{range_with_len, All}
-use Rattle.std.proofs.lemmas.List.{length-map}
 use Rattle.std.proofs.lemmas.List.Sums.{sum_by_more, sum_by_push}
-use Rattle.mp_model.specs.Network.{numbers_to, entry}
+use Rattle.mp_model.specs.Network.{numbers_to}
 use Rattle.mp_press.specs.Queues.{naturals, AreCounts}
 
 pub so_far_step : (f : ℕ → ℕ) (ks : List ℕ) (i sum v most : ℕ) → i < length ks → v ≡ f (get_or ks i 0) → v ≤ most → sum ≡ sum_by f (take i ks) → sum ≤ i * most →

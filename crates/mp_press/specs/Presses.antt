@@ -1,5 +1,5 @@
 -- What the code weighs.
-use Rattle.std.specs.Prelude.{◌≡◌, ◌≤◌, ℕ, ◌*◌, List, length, sum_by, ℤ, pos}
+use Rattle.std.specs.Prelude.{◌≡◌, ℕ, ◌*◌, List, length, sum_by, ℤ, pos}
 use Rattle.mp_model.specs.Network.{Network, Junction, junction_at, share_of, flow_of, out_of, own, next, entry, stage_numbers, stage_at}
 use Rattle.mp_model.specs.Arrivals.{count_in}
 use Rattle.mp_model.specs.Split.{first_greatest}

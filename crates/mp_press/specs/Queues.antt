@@ -1,5 +1,5 @@
 -- Queues as the code keeps them.
-use Rattle.std.specs.Prelude.{◌≡◌, ℕ, ◌^◌, ◌≤◌, ℤ, pos, List, map, length, unsigned_abs}
+use Rattle.std.specs.Prelude.{◌≡◌, ℕ, ◌^◌, ◌≤◌, ℤ, pos, List, map, unsigned_abs}
 use Rattle.std.specs.List.{All}
 
 -- These are the numbers of signed counts.

@@ -1,8 +1,7 @@
 -- What the lists of the code give is the standing after the period.
-use Rattle.std.proofs.Common.{◌≡◌, ◌≤◌, ◌<◌, ℕ, ◌+◌, ◌-◌, ◌%◌, List, [], ◌∷◌, length, get_or, map, sum, sum_by, cond, ◌*◌, ◌^◌, ℤ, arith, refl, sym, ◌∙◌, ap, ap₂, subst}
+use Rattle.std.proofs.Common.{◌≡◌, ℕ, ◌+◌, ◌-◌, ◌%◌, List, length, get_or, map, sum_by, cond, arith, sym, ◌∙◌, ap, ap₂, subst}
 use Rattle.std.specs.List.{AllByRecursion, All}
 use Rattle.std.proofs.lemmas.List.Elements.{All-from_get_or}
-use Rattle.std.proofs.lemmas.List.Sums.{get_or-le-sum_by}
 use Rattle.mp_model.specs.Network.{Network, movement_numbers, link_numbers, numbers_to, from_of, to_of, into_link, goes_to, goes_out, entry}
 use Rattle.mp_model.specs.Arrivals.{arrivals_of}
 use Rattle.mp_model.specs.Step.{passed, joined, departing}
@@ -12,7 +11,6 @@ use Rattle.mp_laws.proofs.Lists.{numbered}
 use Rattle.mp_laws.proofs.Lists.{at_range}
 use Rattle.mp_laws.proofs.Order.{map-same}
 use Rattle.mp_press.specs.Written.{IsAmong}
-use Rattle.mp_press.specs.Queues.{naturals, NoneNegative, AreCounts}
 use Rattle.mp_press.proofs.Known.{kept_known, has_numbers, among}
 use Rattle.mp_step.specs.Standing.{Standing, moved, received, closed}
 use Rattle.mp_step.proofs.Following.{map-map}
@@ -67,13 +65,3 @@ closed_is net st stages counts ph q p p' nq np i o phs qs ps ps' nqs nps is os =
 -- a fact of each entry by its number is one of each element
 pub all_by_numbers : (P : ℕ → Type 0) (xs : List ℕ) (n : ℕ) → length xs ≡ n → AllByRecursion (λ l. P (entry xs l)) (numbers_to n) → All P xs
 all_by_numbers P xs n size h = All-from_get_or P xs 0 (λ i lt. let back : (i + 1) - 1 ≡ i = omega arith in subst (λ t. P (get_or xs t 0)) back (at_range (λ l. P (entry xs l)) 1 n (i + 1) (omega arith) (omega arith) h))
-
--- no queue is above what entered
-pub queues_few : (qs : List ℕ) (most : ℕ) → sum qs ≤ most → All (λ q. q ≤ most) qs
-queues_few qs most h = All-from_get_or (λ q. q ≤ most) qs 0 (λ i lt. omega (arith, get_or-le-sum_by (λ x. x) qs i 0 lt))
-
-pub kept_few : (qs : List ℕ) (period entered gone : ℕ) → period ≤ 2 ^ 48 → entered ≤ period * 2 ^ 37 → entered ≡ gone + sum qs → (entered ≤ 2 ^ 85) × All (λ q. q ≤ 2 ^ 85) qs
-kept_few qs period entered gone h few all = (omega arith, queues_few qs (2 ^ 85) (omega arith))
-
-pub kept_counts : (zs : List ℤ) (period entered gone : ℕ) → NoneNegative zs → period ≤ 2 ^ 48 → entered ≤ period * 2 ^ 37 → entered ≡ gone + sum (naturals zs) → AreCounts zs
-kept_counts zs period entered gone some h few all = record { none_negative = some; few = λ i d lt. let q = (kept_few (naturals zs) period entered gone h few all).1 i d lt in omega arith }

@@ -1,14 +1,14 @@
 -- A period from the phases is the step of each state that the run stands at.
-use Rattle.std.proofs.Common.{◌≡◌, ◌≤◌, ◌<◌, ℕ, zero, suc, ◌+◌, ◌-◌, ◌%◌, List, [], ◌∷◌, length, get_or, map, replicate, sum, sum_by, cond, ℤ, pos, arith, refl, sym, ◌∙◌, ap, ap₂}
+use Rattle.std.proofs.Common.{◌≡◌, ◌≤◌, ◌<◌, ℕ, zero, suc, ◌+◌, ◌-◌, ◌%◌, List, [], ◌∷◌, length, map, replicate, sum, sum_by, pos, arith, refl, sym, ◌∙◌, ap}
 use Rattle.std.specs.List.{AllByRecursion, range_with_len}
 use Rattle.std.proofs.Math.Nat.{mod-add-mod, zero-mod}
 use Rattle.std.proofs.lemmas.List.{length-map, length-replicate}
 use Rattle.std.proofs.lemmas.List.FromFn.{length-range_with_len}
 use Rattle.std.proofs.lemmas.List.Sums.{sum-map, sum_by-cons}
-use Rattle.mp_model.specs.Network.{Network, movement_numbers, link_numbers, numbers_to, from_of, goes_out, entry}
+use Rattle.mp_model.specs.Network.{Network, movement_numbers, link_numbers, numbers_to, from_of, entry}
 use Rattle.mp_model.specs.NetworkRules.{IsNetwork}
 use Rattle.mp_model.specs.Arrivals.{arrivals_of}
-use Rattle.mp_model.specs.Step.{State, queue, queued, received_by, passed, got, joined, new_queue, departing, step}
+use Rattle.mp_model.specs.Step.{State, queue, received_by, passed, got, new_queue, departing, step}
 use Rattle.mp_model.specs.Run.{opening}
 use Rattle.mp_laws.proofs.Lists.{at_in, each_in}
 use Rattle.mp_laws.proofs.Lists.{numbered}
@@ -16,6 +16,7 @@ use Rattle.mp_laws.proofs.Order.{joined_same, map-same}
 use Rattle.mp_laws.proofs.Conserved.{step_conserves}
 use Rattle.mp_press.specs.Queues.{naturals, NoneNegative}
 use Rattle.mp_press.proofs.Writes.{numbers_by_all}
+use Rattle.mp_step.proofs.Stages.{get_or-replicate}
 use Rattle.mp_step.specs.Standing.{Standing, splits_of, IsOn, Stands, as_state, closed}
 
 pub map-map : (f g : ℕ → ℕ) (xs : List ℕ) → map f (map g xs) ≡ map (λ x. f (g x)) xs
@@ -92,16 +93,11 @@ no_queues (suc n) = ap (λ xs. 0 ∷ xs) (no_queues n)
 pub opening_queues : (n : ℕ) → naturals (replicate n (pos 0)) ≡ map (λ k. 0) (numbers_to n)
 opening_queues n = no_queues n ∙ zeros 0 1 n
 
-pub zero_at : (n i : ℕ) → let z : ℕ = 0 in get_or (replicate n z) i z ≡ z
-zero_at zero i = refl
-zero_at (suc n) zero = refl
-zero_at (suc n) (suc i) = zero_at n i
-
 -- a run opens where nothing is queued and nothing was received
 pub opens : (net : Network) → IsNetwork net → (qs ps : List ℕ) (splits : List (List ℕ)) → qs ≡ map (λ k. 0) (movement_numbers net) → ps ≡ replicate (length net.links) 0 → splits ≡ splits_of net →
     IsOn net (record { queues = qs; phases = ps; period = 0; total_in = 0; total_out = 0; splits = splits }) × Stands net (record { queues = qs; phases = ps; period = 0; total_in = 0; total_out = 0; splits = splits }) (opening net)
 opens net ok qs ps splits q p s =
-    let none : (l : ℕ) → entry ps l ≡ 0 = λ l. ap (λ xs. entry xs l) p ∙ zero_at (length net.links) (l - 1) in (
+    let none : (l : ℕ) → entry ps l ≡ 0 = λ l. ap (λ xs. entry xs l) p ∙ get_or-replicate (length net.links) (l - 1) in (
       record {
         queues = ap length q ∙ length-map (movement_numbers net) (λ k. 0) ∙ length-range_with_len 1 (length net.movements);
         phases = ap length p ∙ length-replicate {A = ℕ} (length net.links) 0;

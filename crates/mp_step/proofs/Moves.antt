@@ -1,6 +1,6 @@
 -- What a period does at a link.
-use Rattle.std.proofs.Common.{◌≡◌, ◌==◌, ◌≤◌, ◌<◌, ℕ, zero, suc, ◌+◌, ◌-◌, ◌*◌, ◌%◌, ◌&&◌, Bool, true, false, cond, min, max, List, [], ◌∷◌, ◌++◌, length, get_or, set, drop, map, sum, sum_by, slice_index, Option, None, Some, nat_lt, ℤ, pos, arith, refl, sym, ◌∙◌, ap, ap₂, subst, eqb-true, eq-eqb, ne_eqb, add-one, drop-cons, ◌⊎◌, inl, inr, ⊎_elim, filter, not}
-use Rattle.std.specs.List.{AllByRecursion, IsDistinct, All, range_with_len, list_any, position, position_or_len}
+use Rattle.std.proofs.Common.{◌≡◌, ◌==◌, ◌≤◌, ◌<◌, ℕ, zero, suc, ◌+◌, ◌-◌, ◌&&◌, Bool, true, false, cond, min, List, [], ◌∷◌, length, get_or, set, drop, map, sum, sum_by, slice_index, None, Some, nat_lt, arith, refl, sym, ◌∙◌, ap, ap₂, eqb-true, eq-eqb, ne_eqb, add-one, drop-cons, ⊎_elim, not}
+use Rattle.std.specs.List.{AllByRecursion, IsDistinct, All, range_with_len, position, position_or_len}
 use Rattle.std.proofs.lemmas.Bool.{cases_lt, false≢true, ltb-false}
 use Rattle.std.proofs.lemmas.List.{length-map, get_or-map}
 use Rattle.std.proofs.lemmas.List.Sums.{sum-map}
@@ -16,7 +16,7 @@ use Rattle.mp_laws.proofs.Lists.{at_range, in_range}
 use Rattle.mp_laws.proofs.Lists.{filter_has}
 use Rattle.mp_laws.proofs.Places.{split-map}
 use Rattle.mp_model.specs.Arrivals.{count_in}
-use Rattle.mp_model.specs.Network.{Network, has, numbers_to, movement_numbers, link_numbers, from_of, share_of, flow_of, out_of, entry}
+use Rattle.mp_model.specs.Network.{Network, has, numbers_to, movement_numbers, from_of, share_of, flow_of, out_of, entry}
 use Rattle.mp_model.specs.NetworkRules.{IsNetwork}
 use Rattle.mp_model.specs.Pressure.{positive_weight}
 use Rattle.mp_model.specs.Split.{split_counts, credit_of, first_greatest}
@@ -69,15 +69,6 @@ place_none p fs cs size e = go (nat_lt (position_or_len p fs) (length fs)) refl 
     go true t e = cc
     go false t e = past_end cs (position_or_len p fs) (omega (arith, ltb-false (position_or_len p fs) (length fs) t))
 
-pub count_below : (fs cs : List ℕ) (l m : ℕ) → 0 < m → All (λ a. a < m) cs → count_in fs cs l < m
-count_below [] cs l m h all = h
-count_below (f ∷ fs) [] l m h all = h
-count_below (f ∷ fs) (c ∷ cs) l m h all = go (f == l) (count_below fs cs l m h (λ i d lt. all (suc i) d (omega arith)))
-  where
-    go : (b : Bool) → count_in fs cs l < m → cond b c (count_in fs cs l) < m
-    go true h = all 0 0 (omega arith)
-    go false h = h
-
 pub settled_more : (q y ks parts xs : List ℕ) (i k : ℕ) → i < length ks → i < length parts → k ≡ get_or ks i 0 → (v : ℕ) → v ≡ entry q k - entry y k + get_or parts i 0 →
     settled q y (drop i ks) (drop i parts) xs ≡ settled q y (drop (i + 1) ks) (drop (i + 1) parts) (set xs (k - 1) v)
 settled_more q y ks parts xs i k h l e v is =
@@ -121,9 +112,6 @@ get_or-mapped g (x ∷ xs) zero h = refl
 get_or-mapped g (x ∷ xs) (suc i) h = get_or-mapped g xs i (omega arith)
 
 module _ (net : Network) (ok : IsNetwork net) (l : ℕ) (known : IsAmong (length net.links) l) where
-  ks : List ℕ
-  ks = out_of net l
-
   sums : sum_by (share_of net) (out_of net l) ≡ net.shares
   sums = at_range (λ l. sum_by (share_of net) (out_of net l) ≡ net.shares) 1 (length net.links) l known.0 (omega arith) ok.split
 

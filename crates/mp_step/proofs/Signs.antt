@@ -1,5 +1,5 @@
 -- Writes of counts into lists of signed numbers.
-use Rattle.std.proofs.Common.{◌≡◌, ℕ, zero, suc, List, [], ◌∷◌, set, map, ℤ, pos, refl, sym, ◌∙◌, ap, ap₂}
+use Rattle.std.proofs.Common.{◌≡◌, ℕ, zero, suc, List, [], ◌∷◌, set, map, ℤ, pos, refl, ◌∙◌, ap}
 use Rattle.std.specs.Prelude.{unsigned_abs}
 use Rattle.mp_press.specs.Queues.{naturals, NoneNegative}
 

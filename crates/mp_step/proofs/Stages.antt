@@ -1,5 +1,5 @@
 -- What stands in a list after the writes of the stages.
-use Rattle.std.proofs.Common.{◌≡◌, ◌==◌, ◌≤◌, ◌<◌, ℕ, zero, suc, ◌+◌, ◌-◌, Bool, true, false, cond, ◌||◌, ◌&&◌, List, [], ◌∷◌, length, get_or, drop, zip, replicate, arith, refl, sym, ◌∙◌, ap, add-one, drop-cons, slice_index_or}
+use Rattle.std.proofs.Common.{◌≡◌, ◌≤◌, ◌<◌, ℕ, zero, suc, ◌+◌, Bool, true, false, cond, ◌||◌, ◌&&◌, List, [], ◌∷◌, length, get_or, drop, zip, replicate, arith, refl, sym, ◌∙◌, ap, add-one, drop-cons, slice_index_or}
 use Rattle.std.specs.List.{AllByRecursion, list_any}
 use Rattle.mp_model.specs.Network.{Network, Junction, has, no_junction, stage_at, entry}
 use Rattle.mp_model.specs.Step.{AreStages}

@@ -1,5 +1,5 @@
 -- What a state shows, and what it keeps.
-use Rattle.std.specs.Prelude.{◌≡◌, ◌≤◌, ℕ, ◌+◌, ◌*◌, ◌^◌, length, map, sum}
+use Rattle.std.specs.Prelude.{◌≡◌, ◌≤◌, ◌+◌, ◌*◌, ◌^◌, length, map, sum}
 use Rattle.mp_press.specs.Queues.{naturals, NoneNegative}
 use Rattle.mp_step.specs.Standing.{Standing}
 use Rattle.mp_step.specs.declared.state.State.TheInside.{Inside}

@@ -1,9 +1,9 @@
-use Rattle.std.proofs.Common.{◌≡◌, ◌==◌, ◌≤◌, ◌<◌, ◌-◌, ◌*◌, ◌^◌, ℕ, ap, ap₂, ◌∙◌, sym, arith, length, get_or, List}
+use Rattle.std.proofs.Common.{◌≡◌, ◌==◌, ◌≤◌, ◌<◌, ◌*◌, ◌^◌, ℕ, ap, ap₂, ◌∙◌, sym, arith, length, get_or, List}
 use Rattle.mp_model.specs.Network.{Network, share_of, from_of, out_of, has, targets, junction_at}
 use Rattle.mp_model.specs.Arrivals.{count_in}
 use Rattle.mp_press.specs.Queues.{naturals}
 use Rattle.mp_press.specs.Written.{IsAmong}
-use Rattle.mp_press.specs.Presses.{next_queue, next_of}
+use Rattle.mp_press.specs.Presses.{next_queue}
 use Rattle.mp_press.proofs.Known.{all_known, few_kept, share_few, kept_rise, kept_differ}
 use Rattle.mp_press.proofs.Among.{count_few}
 use Rattle.mp_press.proofs.Sums.{so_far_step, product_fits}

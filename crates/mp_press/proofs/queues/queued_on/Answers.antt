@@ -1,4 +1,4 @@
-use Rattle.std.proofs.Common.{◌≡◌, ◌==◌, ◌≤◌, ◌<◌, ◌-◌, ◌*◌, ◌^◌, ℕ, ap, ap₂, ◌∙◌, sym, arith, length, get_or, List}
+use Rattle.std.proofs.Common.{◌≡◌, ◌==◌, ◌≤◌, ◌<◌, ◌-◌, ◌*◌, ◌^◌, ℕ, ap₂, ◌∙◌, sym, arith, length, get_or, List}
 use Rattle.mp_model.specs.Network.{Network, share_of, from_of, out_of, entry}
 use Rattle.mp_press.specs.Queues.{naturals}
 use Rattle.mp_press.specs.Written.{IsAmong}

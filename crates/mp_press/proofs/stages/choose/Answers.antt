@@ -1,12 +1,10 @@
-use Rattle.std.proofs.Common.{◌≡◌, ◌≤◌, ◌-◌, ◌∙◌, ap, arith, length, ℕ, List, replicate, cond, true}
-use Rattle.std.specs.List.{AllByRecursion}
+use Rattle.std.proofs.Common.{◌≡◌, ◌-◌, ◌∙◌, ap, arith, length, ℕ, List, replicate, cond, true}
 use Rattle.std.proofs.lemmas.List.{length-replicate}
-use Rattle.mp_model.specs.Network.{Network, entry, junction_at, stage_at, has, stands_in}
-use Rattle.mp_model.specs.Pressure.{IsGreatestStageBy, greatest_stage_by}
+use Rattle.mp_model.specs.Network.{entry, junction_at, stage_at, has, stands_in}
 use Rattle.mp_laws.proofs.Lists.{AllOf-map}
 use Rattle.mp_laws.proofs.Lists.{each_in, at_in}
 use Rattle.mp_press.specs.Queues.{naturals}
-use Rattle.mp_press.specs.Written.{IsAmong, written}
+use Rattle.mp_press.specs.Written.{IsAmong}
 use Rattle.mp_press.specs.Presses.{press_by, own_of, own_queue, next_queue}
 use Rattle.mp_press.proofs.Known.{some_stage, stage_known, stage_own, kept_known}
 use Rattle.mp_press.proofs.Writes.{entry-written}

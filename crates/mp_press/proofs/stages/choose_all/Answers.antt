@@ -1,11 +1,8 @@
-use Rattle.std.proofs.Common.{◌≡◌, ◌≤◌, ◌<◌, ◌+◌, ◌-◌, ◌∙◌, ap, ap₂, arith, length, ℕ, sym, List, [], ◌∷◌, ◌++◌, map, take, get_or, subst}
-use Rattle.std.specs.List.{AllByRecursion}
+use Rattle.std.proofs.Common.{◌≡◌, ◌+◌, ◌-◌, ◌∙◌, ap, ap₂, arith, length, ℕ, sym, List, [], ◌∷◌, ◌++◌, map, get_or}
 use Rattle.std.proofs.lemmas.List.{take_all}
-use Rattle.mp_model.specs.Network.{Network, entry, no_junction, junction_at, stage_at}
+use Rattle.mp_model.specs.Network.{Network, entry, no_junction, junction_at}
 use Rattle.mp_model.specs.NetworkRules.{IsNetwork}
-use Rattle.mp_model.specs.Pressure.{greatest_stage, AllGreatest}
-use Rattle.mp_model.specs.Step.{AreStages}
-use Rattle.mp_model.specs.Run.{greatest_stages}
+use Rattle.mp_model.specs.Pressure.{greatest_stage}
 use Rattle.mp_laws.proofs.Lists.{AllOf-map}
 use Rattle.mp_laws.proofs.Bounds.{all_greatest}
 use Rattle.mp_press.specs.Queues.{naturals}

@@ -1,4 +1,4 @@
-use Rattle.std.proofs.Common.{◌≡◌, ◌≤◌, ◌<◌, ◌+◌, ◌-◌, ◌*◌, ◌∙◌, ap, ap₂, arith, length, ℕ, sym, List, set, slice_index, Option, None, Some, refl, sum_by}
+use Rattle.std.proofs.Common.{◌≡◌, ◌+◌, ◌-◌, ◌*◌, ◌∙◌, ap, ap₂, arith, length, ℕ, List, set, slice_index, Option, None, Some, refl, sum_by}
 use Rattle.std.proofs.lemmas.List.Edits.{fill_by_more}
 use Rattle.mp_model.specs.Network.{Network, entry, to_of, out_of_target, share_of, flow_of}
 use Rattle.mp_model.specs.NetworkRules.{IsNetwork}

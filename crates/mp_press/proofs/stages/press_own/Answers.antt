@@ -1,4 +1,4 @@
-use Rattle.std.proofs.Common.{◌≡◌, ◌==◌, ◌≤◌, ◌<◌, ◌+◌, ◌-◌, ◌*◌, ◌∙◌, ap, ap₂, arith, length, ℕ, sym, List, [], get_or, drop, set, refl}
+use Rattle.std.proofs.Common.{◌≡◌, ◌<◌, ◌+◌, ◌-◌, ◌*◌, ◌∙◌, ap, ap₂, arith, length, ℕ, sym, List, [], get_or, drop, set, refl}
 use Rattle.std.specs.Prelude.{unsigned_abs}
 use Rattle.std.proofs.lemmas.List.{length-map, drop_all}
 use Rattle.mp_model.specs.Network.{Network, flow_of, stands_in, junction_at}

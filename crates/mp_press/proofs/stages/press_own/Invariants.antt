@@ -1,6 +1,5 @@
 use Rattle.std.proofs.Common.{◌≡◌, ◌≤◌, ◌^◌, drop}
 use Rattle.std.specs.List.{All}
-use Rattle.mp_model.specs.Network.{junction_at, own}
 use Rattle.mp_press.specs.Queues.{naturals}
 use Rattle.mp_press.specs.Written.{written}
 use Rattle.mp_press.specs.Presses.{press_by, own_queue, next_queue}

@@ -1,10 +1,9 @@
-use Rattle.std.proofs.Common.{◌≡◌, ◌==◌, ◌≤◌, ◌<◌, ◌+◌, ◌-◌, ◌*◌, ◌^◌, ◌∙◌, ap, ap₂, arith, length, ℕ, sym, List, get_or, ℤ, pos, ◌-ℤ◌}
+use Rattle.std.proofs.Common.{◌≡◌, ◌<◌, ◌*◌, ◌∙◌, ap, ap₂, arith, length, ℕ, sym, List, get_or, pos, ◌-ℤ◌}
 use Rattle.std.specs.Prelude.{unsigned_abs}
 use Rattle.std.specs.Int.{w128}
 use Rattle.std.proofs.lemmas.Int.{ints, to_z-of_z}
 use Rattle.std.proofs.lemmas.List.{length-map}
 use Rattle.mp_model.specs.Network.{Network, stands_in, junction_at}
-use Rattle.mp_model.specs.Arrivals.{count_in}
 use Rattle.mp_model.specs.Pressure.{queued_downstream}
 use Rattle.mp_press.specs.Queues.{naturals}
 use Rattle.mp_press.specs.Written.{IsAmong}

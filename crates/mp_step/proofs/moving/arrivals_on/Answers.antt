@@ -1,4 +1,4 @@
-use Rattle.std.proofs.Common.{◌≡◌, ◌==◌, ◌∙◌, sym, ap, ap₂, arith, rules, get_or, length, ℕ}
+use Rattle.std.proofs.Common.{◌==◌, ◌∙◌, sym, ap, get_or}
 use Rattle.mp_model.specs.Network.{fed}
 use Rattle.mp_step.proofs.Moves.{count_at, place_some, place_none}
 use Rattle.mp_step.proofs.moving.arrivals_on.Goals as goal

@@ -1,5 +1,4 @@
-use Rattle.std.proofs.Common.{◌≡◌, ◌≤◌, ◌<◌, ◌-◌, ◌∙◌, sym, ap, ap₂, arith, rules, get_or, length, ℕ, slice_index}
-use Rattle.mp_model.specs.Network.{entry}
+use Rattle.std.proofs.Common.{◌≤◌, sym, arith, length}
 use Rattle.mp_press.proofs.Known.{all_known, few_kept}
 use Rattle.mp_model.specs.Network.{goes_to, to_of}
 use Rattle.mp_step.proofs.moving.gather.Goals as goal

@@ -1,5 +1,5 @@
 use Rattle.std.proofs.Common.{◌≡◌, ◌≤◌, ◌*◌, sum_by, take}
-use Rattle.mp_model.specs.Network.{into_link, entry}
+use Rattle.mp_model.specs.Network.{entry}
 use Rattle.mp_step.proofs.moving.gather.Given as goal
 
 abbrev pub invariant-loop-k : goal.invariant-loop-k

@@ -1,13 +1,12 @@
-use Rattle.std.proofs.Common.{◌≡◌, ◌==◌, ◌≤◌, ◌<◌, ◌+◌, ◌-◌, ◌%◌, ◌∙◌, sym, ap, ap₂, arith, rules, get_or, length, ℕ, List, map, sum, sum_by, take, subst}
+use Rattle.std.proofs.Common.{◌≡◌, ◌==◌, ◌≤◌, ◌+◌, ◌-◌, ◌%◌, ◌∙◌, sym, ap, ap₂, arith, length, ℕ, map, sum}
 use Rattle.std.proofs.lemmas.List.{length-map, length-take-le}
-use Rattle.mp_model.specs.Network.{from_of, out_of, into_link, share_of, entry}
+use Rattle.mp_model.specs.Network.{from_of, out_of, share_of, entry}
 use Rattle.mp_model.specs.Step.{joined}
 use Rattle.mp_press.specs.Queues.{naturals}
 use Rattle.mp_press.specs.Written.{written}
 use Rattle.mp_press.proofs.Known.{all_known, few_kept}
 use Rattle.mp_step.proofs.Moves.{sum_shares, parts_are, settled-map}
 use Rattle.mp_step.specs.Settled.{settled}
-use Rattle.mp_step.specs.Standing.{shares_in}
 use Rattle.mp_step.proofs.moving.move_link.Goals as goal
 
 pub slice_bounds-part-end : goal.slice_bounds-part-end

@@ -1,4 +1,4 @@
-use Rattle.std.proofs.Common.{◌≡◌, ◌-◌, ◌∙◌, ap, ap₂, set, pos, ℤ, ℕ, subst, sym, arith}
+use Rattle.std.proofs.Common.{◌-◌, ◌∙◌, ap₂, set, ℤ, subst, sym}
 use Rattle.std.specs.Int.{w128}
 use Rattle.std.proofs.Math.Facts.{to_z_pos}
 use Rattle.mp_press.specs.Queues.{naturals, NoneNegative}

@@ -1,6 +1,6 @@
-use Rattle.std.proofs.Common.{◌≡◌, ◌+◌, ◌-◌, ◌∙◌, ap, ap₂, arith, length, ℕ, zero, suc, sym, List, ◌∷◌, map, replicate, refl, rules}
+use Rattle.std.proofs.Common.{◌≡◌, ◌+◌, ◌∙◌, ap, ap₂, arith, length, ℕ, zero, suc, sym, List, ◌∷◌, map, replicate, refl, rules}
 use Rattle.std.specs.List.{range_with_len}
-use Rattle.mp_feed.specs.Counts.{counts, gained, places_of}
+use Rattle.mp_feed.specs.Counts.{counts, gained}
 use Rattle.mp_step.proofs.moving.split_among.Goals as goal
 
 none : (shares : List ℕ) (phase z a n : ℕ) → z ≡ 0 → replicate n z ≡ map (gained shares phase z) (range_with_len a n)

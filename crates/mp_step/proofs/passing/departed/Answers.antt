@@ -1,4 +1,4 @@
-use Rattle.std.proofs.Common.{◌≡◌, ◌≤◌, ◌+◌, ◌-◌, ◌^◌, ℕ, ◌∙◌, arith, rules, cond, is_none}
+use Rattle.std.proofs.Common.{◌≤◌, ◌^◌, ℕ, ◌∙◌, arith, cond, is_none}
 use Rattle.mp_model.specs.Network.{to_of, entry}
 use Rattle.mp_press.proofs.Sums.{numbers_step}
 use Rattle.mp_step.proofs.passing.departed.Goals as goal

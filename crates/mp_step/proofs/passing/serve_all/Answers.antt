@@ -1,8 +1,7 @@
-use Rattle.std.proofs.Common.{◌≡◌, ◌≤◌, ◌+◌, ◌-◌, ℕ, List, [], ap, ap₂, ◌∙◌, sym, refl, arith, rules, length, get_or, drop, replicate, zip, nat_lt, min, cond, subst}
-use Rattle.std.specs.List.{list_any}
+use Rattle.std.proofs.Common.{◌≡◌, ◌≤◌, ◌+◌, ◌-◌, [], ap, ap₂, ◌∙◌, sym, refl, arith, length, get_or, drop, replicate, nat_lt, min, cond, subst}
 use Rattle.std.proofs.lemmas.List.{length-replicate, drop_all}
 use Rattle.mp_laws.proofs.Lists.{each_in}
-use Rattle.mp_model.specs.Network.{Network, Junction, no_junction, flow_of, entry, junction_at, stage_at, movement_numbers}
+use Rattle.mp_model.specs.Network.{no_junction, flow_of, entry, junction_at, stage_at, movement_numbers}
 use Rattle.mp_model.specs.Pressure.{positive_weight}
 use Rattle.mp_model.specs.Step.{passed, has_green}
 use Rattle.mp_press.proofs.Known.{stage_known, flow_few}
@@ -13,7 +12,6 @@ use Rattle.mp_step.proofs.Moves.{map_each, passed_few}
 use Rattle.mp_step.proofs.Stages.{entry-written_stages, written_stages_more, get_or-replicate, cond-and, stages_at, stages_count, stages_of_all}
 use Rattle.mp_step.specs.Settled.{written_stages}
 use Rattle.mp_step.specs.Standing.{served}
-use Rattle.std.specs.List.{AllByRecursion, All}
 use Rattle.std.proofs.lemmas.List.Elements.{All-from_recursion}
 use Rattle.mp_step.proofs.passing.serve_all.Goals as goal
 

@@ -1,7 +1,6 @@
-use Rattle.std.proofs.Common.{◌≡◌, ◌≤◌, ◌+◌, ◌∙◌, ap, ap₂, arith, length, sum, sym, map, List, [], ◌∷◌, ◌++◌}
+use Rattle.std.proofs.Common.{◌+◌, ◌∙◌, ap, ap₂, arith, sum, sym, map, [], ◌∷◌, ◌++◌}
 use Rattle.std.proofs.lemmas.List.{map-append}
 use Rattle.std.proofs.lemmas.List.FromFn.{map-range_with_len_more}
-use Rattle.mp_model.specs.Network.{numbers_to}
 use Rattle.mp_step.specs.Standing.{shares_in}
 use Rattle.mp_step.proofs.Moves.{sum_shares, shares_some, shares_each}
 use Rattle.mp_step.proofs.state.make_splits.Goals as goal

@@ -1,4 +1,4 @@
-use Rattle.std.proofs.Common.{◌≡◌, ◌==◌, length, sym}
+use Rattle.std.proofs.Common.{◌==◌, length, sym}
 use Rattle.mp_model.specs.Network.{from_of}
 use Rattle.mp_press.proofs.Known.{all_known}
 use Rattle.mp_step.proofs.state.shares_of.Goals as goal

@@ -1,6 +1,5 @@
-use Rattle.std.proofs.Common.{◌≡◌, ◌≤◌, ◌+◌, ◌*◌, ◌^◌, ◌∙◌, ap, sym, arith, rules, length, ℕ, ℤ, pos, List, map, replicate, sum, subst}
-use Rattle.std.proofs.lemmas.List.{length-replicate}
-use Rattle.mp_press.specs.Queues.{naturals, NoneNegative}
+use Rattle.std.proofs.Common.{◌≡◌, ◌∙◌, ap, arith, rules, length, pos, replicate, sum}
+use Rattle.mp_press.specs.Queues.{naturals}
 use Rattle.mp_step.proofs.Following.{opening_queues, opens, zeros_positive, zeros_sum}
 use Rattle.mp_step.proofs.state.State.empty.Goals as goal
 
