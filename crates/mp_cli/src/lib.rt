@@ -5,6 +5,8 @@ mod command;
 mod message;
 mod outcome;
 mod program;
+#[cfg(test)]
+mod tests;
 
 pub use command::Command;
 pub use outcome::Outcome;

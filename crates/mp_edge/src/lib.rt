@@ -5,6 +5,6 @@ mod memory;
 mod outside;
 mod real;
 
-pub use memory::{MemSink, MemSource, NoMemory};
+pub use memory::{MemSink, MemSource, MemStore, NoMemory};
 pub use outside::{Failed, Sink, Source, Store, StoreFault};
 pub use real::{FileStore, StdSink, StdSource};

@@ -15,7 +15,7 @@ returns-clause-complete_run g c = λ run file stream no_store no_read no_write.
     let named = subst (λ (k : Command). Means c.obey-outcome.result k files c.name_of-name.result.now left rest was now) (c.command_of.ensures ∙ run) c.obey-outcome.ensures.means in
     let means = subst (λ (n : List ℕ). Means c.obey-outcome.result Run files n left rest was now) c.name_of-name.ensures named in
     subst IsDoneUnlessMemory (sym c.status_of.ensures)
-        (complete_run c.obey-outcome.result files _ left rest was now file stream (λ e. no_store (c.obey-outcome.ensures.store e)) (λ e. no_read (c.obey-outcome.ensures.read e)) (λ e. no_write (c.obey-outcome.ensures.write e)) means)
+    (complete_run c.obey-outcome.result files _ left rest was now file stream (λ e. no_store (c.obey-outcome.ensures.store e)) (λ e. no_read (c.obey-outcome.ensures.read e)) (λ e. no_write (c.obey-outcome.ensures.write e)) means)
 
 pub returns-clause-complete_show : goal.returns-clause-complete_show
 returns-clause-complete_show g c = λ show file no_store no_write.
@@ -27,4 +27,4 @@ returns-clause-complete_show g c = λ show file no_store no_write.
     let named = subst (λ (k : Command). Means c.obey-outcome.result k files c.name_of-name.result.now left rest was now) (c.command_of.ensures ∙ show) c.obey-outcome.ensures.means in
     let means = subst (λ (n : List ℕ). Means c.obey-outcome.result Show files n left rest was now) c.name_of-name.ensures named in
     subst IsDoneUnlessMemory (sym c.status_of.ensures)
-        (complete_show c.obey-outcome.result files _ left rest was now file (λ e. no_store (c.obey-outcome.ensures.store e)) (λ e. no_write (c.obey-outcome.ensures.write e)) means)
+    (complete_show c.obey-outcome.result files _ left rest was now file (λ e. no_store (c.obey-outcome.ensures.store e)) (λ e. no_write (c.obey-outcome.ensures.write e)) means)
