@@ -3,10 +3,9 @@
 
 use mp_cli::top;
 use mp_edge::{FileStore, StdSink, StdSource};
-use std::env;
-use std::io;
 use std::process::ExitCode;
 use std::rt::Env;
+use std::{env, io};
 
 /// The status for want of memory.
 const NO_MEMORY: u8 = 12;

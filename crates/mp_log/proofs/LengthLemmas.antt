@@ -42,4 +42,5 @@ short period arrivals stages queues f = record {
       let size = ap length f.none_negative in
       let few = f.few_queues in
       let text = ap (λ qs. length (flat_map (λ q. 32 ∷ signed_decimal q) qs)) f.none_negative ∙ ap length (spaced_signed f.counts) in
-      omega (arith, length-map f.counts pos) }
+      omega (arith, length-map f.counts pos);
+}

@@ -27,9 +27,10 @@ first_kind net text rest line cut =
     ∙ ap (λ kind. without_events kind ∷ plain_kinds net rest) (kind_of_short net cut.raw line cut.fits cut.given)
 
 pub first_long : (net : Network) (text : List ℕ) → StartsLong 2049 text → (more : List LineKind) × (plain_kinds net text ≡ long_line ∷ more)
-first_long net text starts =
-    (map (λ raw. without_events (line_kind net raw)) starts.more,
-     ap (map (λ raw. without_events (line_kind net raw))) starts.lines ∙ ap (λ kind. without_events kind ∷ map (λ raw. without_events (line_kind net raw)) starts.more) (kind_of_long net starts.raw starts.long))
+first_long net text starts = (
+  map (λ raw. without_events (line_kind net raw)) starts.more,
+  ap (map (λ raw. without_events (line_kind net raw))) starts.lines ∙ ap (λ kind. without_events kind ∷ map (λ raw. without_events (line_kind net raw)) starts.more) (kind_of_long net starts.raw starts.long),
+)
 
 all_more : (kinds : List LineKind) (kind : LineKind) → AllByRecursion IsTaken kinds → IsTaken kind → AllByRecursion IsTaken (kinds ++ kind ∷ [])
 all_more [] kind all is = (is, tt)
@@ -43,7 +44,8 @@ starts_empty net text = record { lines = refl; taken = tt }
 pub starts_more : (net : Network) (text : List ℕ) (kinds more : List LineKind) (kind : LineKind) → StartsWith net text kinds (kind ∷ more) → IsTaken kind → StartsWith net text (kinds ++ kind ∷ []) more
 starts_more net text kinds more kind starts is = record {
   lines = starts.lines ∙ sym (append_assoc kinds (kind ∷ []) more);
-  taken = all_more kinds kind starts.taken is }
+  taken = all_more kinds kind starts.taken is;
+}
 
 -- the arrivals of one more line
 pub arrivals_more : (kinds : List LineKind) (counts : List ℕ) → arrivals_of_kinds (kinds ++ arrivals_line counts ∷ []) ≡ arrivals_of_kinds kinds ++ counts ∷ []

@@ -38,9 +38,9 @@ pub line_is : (net : Network) (stages counts : List ℕ) (old new : Standing) �
 line_is net stages counts old new chosen state stands after =
     let same : stages ≡ greatest_stages net (queue state) = chosen ∙ ap (λ q. greatest_stages net (entry q)) stands.queues in
     ap (λ line. line ++ 10 ∷ [])
-        (ap (λ p. period_line p counts stages new.queues) after.period
-        ∙ ap (λ s. period_line (advance net counts state).period counts s new.queues) same
-        ∙ ap (λ q. period_line (advance net counts state).period counts (greatest_stages net (queue state)) q) after.queues)
+    (ap (λ p. period_line p counts stages new.queues) after.period
+    ∙ ap (λ s. period_line (advance net counts state).period counts s new.queues) same
+    ∙ ap (λ q. period_line (advance net counts state).period counts (greatest_stages net (queue state)) q) after.queues)
     ∙ sym (one_line (line_after net state counts))
 
 -- the entries of a list, by their numbers
@@ -49,7 +49,7 @@ sum_by_numbers [] front n is = refl
 sum_by_numbers (x ∷ q) front n is =
     let here : entry (front ++ x ∷ q) n ≡ x = get_or_at front x q 0 (n - 1) (omega arith) in
     let rest : sum_by (entry ((front ++ x ∷ []) ++ q)) (range_with_len (n + 1) (length q)) ≡ sum q =
-        sum_by_numbers q (front ++ x ∷ []) (n + 1) (omega (arith, length-append front (x ∷ []))) in
+    sum_by_numbers q (front ++ x ∷ []) (n + 1) (omega (arith, length-append front (x ∷ []))) in
     let same : (front ++ x ∷ []) ++ q ≡ front ++ x ∷ q = append_assoc front (x ∷ []) q in
     let later : sum_by (entry (front ++ x ∷ q)) (range_with_len (n + 1) (length q)) ≡ sum q = subst (λ xs. sum_by (entry xs) (range_with_len (n + 1) (length q)) ≡ sum q) same rest in
     sum_by-cons (entry (front ++ x ∷ q)) n (range_with_len (n + 1) (length q)) ∙ ap (λ a. a + sum_by (entry (front ++ x ∷ q)) (range_with_len (n + 1) (length q))) here ∙ ap (λ b. x + b) later ∙ sym (sum_by-cons (λ y. y) x q)
@@ -64,8 +64,8 @@ pub end_is : (net : Network) (st : Standing) (state : State) (n : ℕ) → IsOn 
     → end_line_of st.period st.total_in st.total_out n ++ 10 ∷ [] ≡ text_of (end_line net state ∷ [])
 end_is net st state n on stands is =
     ap (λ line. line ++ 10 ∷ [])
-        (ap (λ p. end_line_of p st.total_in st.total_out n) stands.period ∙ ap (λ i. end_line_of state.period i st.total_out n) stands.total_in
-        ∙ ap (λ o. end_line_of state.period state.total_in o n) stands.total_out ∙ ap (end_line_of state.period state.total_in state.total_out) (is ∙ sym (queued_is net st state on stands)))
+    (ap (λ p. end_line_of p st.total_in st.total_out n) stands.period ∙ ap (λ i. end_line_of state.period i st.total_out n) stands.total_in
+    ∙ ap (λ o. end_line_of state.period state.total_in o n) stands.total_out ∙ ap (end_line_of state.period state.total_in state.total_out) (is ∙ sym (queued_is net st state on stands)))
     ∙ sym (one_line (end_line net state))
 
 -- stages are as many as the junctions, and none is above the most stages of a junction
@@ -93,7 +93,8 @@ line_fits net period counts stages queues st range on has are digits low same fe
   few_queues = let movements = range.movements in omega (arith, ap length same, length-map st.queues pos, on.queues, movements.1);
   arrivals_in = digits;
   stages_in = stages_small net.junctions stages are range.stages;
-  queues_in = few }
+  queues_in = few;
+}
 
 -- signed counts are those of their numbers
 pub signed_is : (zs : List ℤ) (ns : List ℕ) → NoneNegative zs → naturals zs ≡ ns → zs ≡ map pos ns
@@ -113,7 +114,8 @@ pub closes_period : {T E : Type 0} (r : Result T E) (net : Network) (stages coun
     → Tells was now (Puts r (period_line period counts shown new.queues ++ 10 ∷ [])) → OnOk r (Closed net counts old new was now)
 closes_period (Ok x) net stages counts shown old new period was now chosen closes is same told = record {
   moved = advanced net stages counts old new chosen closes;
-  written = λ state stands. Tells-weaker _ _ _ _ (λ before after e. e ∙ ap (λ xs. before ++ xs) (put_line net stages counts shown old new period chosen closes is same state stands)) told }
+  written = λ state stands. Tells-weaker _ _ _ _ (λ before after e. e ∙ ap (λ xs. before ++ xs) (put_line net stages counts shown old new period chosen closes is same state stands)) told;
+}
 closes_period (Err e) net stages counts shown old new period was now chosen closes is same told = tt
 
 -- and one that fails cuts its line short
@@ -135,10 +137,10 @@ pub finishes_done : {T E : Type 0} (r : Result T E) (x : T) (net : Network) (st 
     → n ≡ total_in - total_out → st.total_in ≡ st.total_out + sum st.queues → r ≡ Ok x → Tells was now (Puts r (end_line_of period total_in total_out n ++ 10 ∷ [])) → Finishes net Done st was now
 finishes_done r x net st period total_in total_out n was now on p i o is conserved ok told =
     λ state stands. Tells-weaker _ _ _ _ (λ before after e. e ∙ ap (λ xs. before ++ xs) (put_end_is net st period total_in total_out n on p i o is conserved state stands))
-        (subst (λ s. Tells was now (Puts s (end_line_of period total_in total_out n ++ 10 ∷ []))) ok told)
+    (subst (λ s. Tells was now (Puts s (end_line_of period total_in total_out n ++ 10 ∷ []))) ok told)
 
 pub finishes_cut : {T E : Type 0} (r : Result T E) (x : E) (net : Network) (st : Standing) (period total_in total_out n : ℕ) (was now : Option (List ℕ)) → IsOn net st → period ≡ st.period → total_in ≡ st.total_in → total_out ≡ st.total_out
     → n ≡ total_in - total_out → st.total_in ≡ st.total_out + sum st.queues → r ≡ Err x → Tells was now (Puts r (end_line_of period total_in total_out n ++ 10 ∷ [])) → Finishes net Write st was now
 finishes_cut r x net st period total_in total_out n was now on p i o is conserved err told =
     λ state stands. subst (λ (text : List ℕ). Tells was now (GainsPrefix text)) (put_end_is net st period total_in total_out n on p i o is conserved state stands)
-        (subst (λ s. Tells was now (Puts s (end_line_of period total_in total_out n ++ 10 ∷ []))) err told)
+    (subst (λ s. Tells was now (Puts s (end_line_of period total_in total_out n ++ 10 ∷ []))) err told)

@@ -47,7 +47,8 @@ progress_start net whole was cut standing new stands = record {
   count = refl;
   stands = stands;
   to_come = Tells-same whole _ (λ text. subst (λ (c : Cut). StartsWith net text [] (plain_kinds net (c.held ++ text))) (sym new) (starts_empty net text));
-  written = Tells-same was _ (λ before. sym (append-nil before)) }
+  written = Tells-same was _ (λ before. sym (append-nil before));
+}
 
 -- one more line
 line_to_come : (net : Network) (whole left left' : Option (List ℕ)) (old new : Cut) (kinds : List LineKind) → Tells whole left (λ text rest. StartsWith net text kinds (plain_kinds net (old.held ++ rest)))
@@ -68,7 +69,8 @@ taken net whole left held was now now' old new kinds skipped_line lines count st
   stands = subst (λ A. Stands net new (state_after net (opening net) A)) (sym (arrivals_skipped kinds)) (subst (λ st. Stands net st (state_after net (opening net) (arrivals_of_kinds kinds))) (sym takes.0) stands);
   to_come = to_come_more net whole left held kinds skipped_line tt told;
   written = subst (λ A. Tells was now' (λ before after. after ≡ before ++ text_of (period_lines net A))) (sym (arrivals_skipped kinds))
-      (subst (λ o. Tells was o (λ before after. after ≡ before ++ text_of (period_lines net (arrivals_of_kinds kinds)))) (sym takes.1) written) }
+      (subst (λ o. Tells was o (λ before after. after ≡ before ++ text_of (period_lines net (arrivals_of_kinds kinds)))) (sym takes.1) written);
+}
 taken net whole left held was now now' old new kinds (arrivals_line counts) lines count stands written told takes =
     let state = state_after net (opening net) (arrivals_of_kinds kinds) in
     record {
@@ -78,7 +80,8 @@ taken net whole left held was now now' old new kinds (arrivals_line counts) line
       to_come = to_come_more net whole left held kinds (arrivals_line counts) tt told;
       written = Tells-then _ _ _ _ _ _ (λ before mid after w l. l ∙ ap (λ xs. xs ++ text_of (line_after net state counts ∷ [])) w
           ∙ append_assoc before (text_of (period_lines net (arrivals_of_kinds kinds))) (text_of (line_after net state counts ∷ []))
-          ∙ ap (λ xs. before ++ xs) (sym (text_more net (arrivals_of_kinds kinds) counts) ∙ ap (λ A. text_of (period_lines net A)) (sym (arrivals_more kinds counts)))) written (takes.written state stands) }
+          ∙ ap (λ xs. before ++ xs) (sym (text_more net (arrivals_of_kinds kinds) counts) ∙ ap (λ A. text_of (period_lines net A)) (sym (arrivals_more kinds counts)))) written (takes.written state stands);
+    }
 taken net whole left held was now now' old new kinds long_line lines count stands written told takes = absurd takes
 taken net whole left held was now now' old new kinds bad_line lines count stands written told takes = absurd takes
 taken net whole left held was now now' old new kinds (hear_line j l) lines count stands written told takes = absurd takes
@@ -99,7 +102,8 @@ progress_long net whole left left' cut new_cut was now standing lines p cuts = r
   read = Tells-then _ _ _ _ _ _ (λ text mid rest starts long.
       let first = first_long net (cut.held ++ mid) long in
       (first.0, subst (λ ks. StartsWith net text p.kinds ks) first.1 starts)) p.to_come cuts;
-  written = p.written }
+  written = p.written;
+}
 
 -- the source met a fault
 pub progress_failed : (net : Network) (whole left left' : Option (List ℕ)) (cut new_cut : Cut) (was now : Option (List ℕ)) (standing : Standing) (lines : ℕ)
@@ -107,7 +111,8 @@ pub progress_failed : (net : Network) (whole left left' : Option (List ℕ)) (cu
 progress_failed net whole left left' cut new_cut was now standing lines p cuts = record {
   kinds = p.kinds;
   read = Tells-then _ _ _ _ _ _ (λ text mid rest starts same. (plain_kinds net (new_cut.held ++ rest), subst (λ (t : List ℕ). StartsWith net text p.kinds (plain_kinds net t)) same starts)) p.to_come cuts;
-  written = p.written }
+  written = p.written;
+}
 
 -- a line is left after the last that may be taken
 pub progress_many : (net : Network) (whole left left' : Option (List ℕ)) (cut new_cut : Cut) (was now : Option (List ℕ)) (standing : Standing)
@@ -116,7 +121,8 @@ progress_many net whole left left' cut new_cut was now standing p cuts = record 
   kinds = p.kinds;
   number = p.count;
   read = Tells-weaker _ _ _ _ (λ text rest starts. (without_events (plain_kind net new_cut.line), plain_kinds net (new_cut.held ++ rest), starts)) (line_to_come net whole left left' cut new_cut p.kinds p.to_come cuts);
-  written = p.written }
+  written = p.written;
+}
 
 pub progress_many_long : (net : Network) (whole left left' : Option (List ℕ)) (cut new_cut : Cut) (was now : Option (List ℕ)) (standing : Standing)
     → Progress net whole left cut.held was now standing (2 ^ 48) → Tells left left' (Cuts 2049 TooLong cut new_cut) → HasTooMany net [] whole left' was now
@@ -126,7 +132,8 @@ progress_many_long net whole left left' cut new_cut was now standing p cuts = re
   read = Tells-then _ _ _ _ _ _ (λ text mid rest starts long.
       let first = first_long net (cut.held ++ mid) long in
       (long_line, first.0, subst (λ ks. StartsWith net text p.kinds ks) first.1 starts)) p.to_come cuts;
-  written = p.written }
+  written = p.written;
+}
 
 -- the end line behind the lines of the periods
 behind_periods : (net : Network) (kinds : List LineKind) (was now now' : Option (List ℕ)) → Tells was now (λ before after. after ≡ before ++ text_of (period_lines net (arrivals_of_kinds kinds)))
@@ -141,7 +148,7 @@ cut_behind : (net : Network) (kinds : List LineKind) (was now now' : Option (Lis
     → Tells was now (λ before after. after ≡ before ++ text_of (period_lines net (arrivals_of_kinds kinds))) → Tells now now' (GainsPrefix more) → Tells was now' (GainsPrefix all)
 cut_behind net kinds was now now' more all front written cut =
     Tells-then _ _ _ _ _ _ (λ before mid after w gain. GainsPrefix-longer (text_of (period_lines net (arrivals_of_kinds kinds)) ++ more) all before after front
-        (GainsPrefix-then (text_of (period_lines net (arrivals_of_kinds kinds))) more before mid after w gain)) written cut
+    (GainsPrefix-then (text_of (period_lines net (arrivals_of_kinds kinds))) more before mid after w gain)) written cut
 
 ends_there : (net : Network) (whole left left' : Option (List ℕ)) (cut new_cut : Cut) (kinds : List LineKind) → Tells whole left (λ text rest. StartsWith net text kinds (plain_kinds net (cut.held ++ rest)))
     → Tells left left' (Cuts 2049 End cut new_cut) → Tells whole left' (λ text rest. (rest ≡ []) × StartsWith net text kinds [])
@@ -154,14 +161,16 @@ pub progress_end : (net : Network) (end : RunEnd) (whole left left' : Option (Li
 progress_end net Done whole left left' cut new_cut was now now' standing lines p cuts finishes = record {
   kinds = p.kinds;
   read = ends_there net whole left left' cut new_cut p.kinds p.to_come cuts;
-  written = behind_periods net p.kinds was now now' p.written (finishes (state_after net (opening net) (arrivals_of_kinds p.kinds)) p.stands) }
+  written = behind_periods net p.kinds was now now' p.written (finishes (state_after net (opening net) (arrivals_of_kinds p.kinds)) p.stands);
+}
 progress_end net Write whole left left' cut new_cut was now now' standing lines p cuts finishes =
     let A = arrivals_of_kinds p.kinds in
     let last = text_of (end_line net (state_after net (opening net) A) ∷ []) in
     record {
       kinds = p.kinds;
       read = Tells-weaker _ _ _ _ (λ text rest ended. ([], ended.1)) (ends_there net whole left left' cut new_cut p.kinds p.to_come cuts);
-      written = cut_behind net p.kinds was now now' last (run_text net A) ([], sym (append-nil (text_of (period_lines net A) ++ last) ∙ sym (run_text_is net A))) p.written (finishes (state_after net (opening net) A) p.stands) }
+      written = cut_behind net p.kinds was now now' last (run_text net A) ([], sym (append-nil (text_of (period_lines net A) ++ last) ∙ sym (run_text_is net A))) p.written (finishes (state_after net (opening net) A) p.stands);
+    }
 progress_end net Read whole left left' cut new_cut was now now' standing lines p cuts finishes = absurd finishes
 progress_end net LineLimit whole left left' cut new_cut was now now' standing lines p cuts finishes = absurd finishes
 progress_end net (Long n) whole left left' cut new_cut was now now' standing lines p cuts finishes = absurd finishes
@@ -180,7 +189,8 @@ cut_at net whole left held was now now' standing kinds (arrivals_line counts) st
     record {
       kinds = kinds ++ arrivals_line counts ∷ [];
       read = Tells-weaker _ _ _ _ (λ text rest starts. (plain_kinds net (held ++ rest), starts_more net text kinds (plain_kinds net (held ++ rest)) (arrivals_line counts) starts tt)) told;
-      written = cut_behind net kinds was now now' line (run_text net more) (last, run_text_is net more ∙ ap (λ xs. xs ++ last) front) written (cut (state_after net (opening net) A) stands) }
+      written = cut_behind net kinds was now now' line (run_text net more) (last, run_text_is net more ∙ ap (λ xs. xs ++ last) front) written (cut (state_after net (opening net) A) stands);
+    }
 cut_at net whole left held was now now' standing kinds skipped_line stands written told cut = absurd cut
 cut_at net whole left held was now now' standing kinds long_line stands written told cut = absurd cut
 cut_at net whole left held was now now' standing kinds bad_line stands written told cut = absurd cut
@@ -197,7 +207,8 @@ progress_stop net (Grammar m) whole left left' cut new_cut was now now' old new 
   number = takes.1 ∙ ap (λ n. n + 1) (sym p.count);
   read = Tells-weaker _ _ _ _ (λ text rest starts. (plain_kinds net (new_cut.held ++ rest), subst (λ kind. StartsWith net text p.kinds (kind ∷ plain_kinds net (new_cut.held ++ rest))) takes.0 starts))
       (line_to_come net whole left left' cut new_cut p.kinds p.to_come cuts);
-  written = subst (λ o. Tells was o (λ before after. after ≡ before ++ text_of (period_lines net (arrivals_of_kinds p.kinds)))) (sym takes.2) p.written }
+  written = subst (λ o. Tells was o (λ before after. after ≡ before ++ text_of (period_lines net (arrivals_of_kinds p.kinds)))) (sym takes.2) p.written;
+}
 progress_stop net Done whole left left' cut new_cut was now now' old new lines p cuts takes = absurd takes
 progress_stop net Read whole left left' cut new_cut was now now' old new lines p cuts takes = absurd takes
 progress_stop net LineLimit whole left left' cut new_cut was now now' old new lines p cuts takes = absurd takes
@@ -212,27 +223,43 @@ behind_head net head kinds was mid now put written =
 -- a head before the text of the run
 pub with_head : (net : Network) (head : List ℕ) (end : RunEnd) (whole left was mid now : Option (List ℕ)) → Tells was mid (λ before after. after ≡ before ++ head) → EndsAs net [] end whole left mid now → EndsAs net head end whole left was now
 with_head net head Done whole left was mid now put ends = record {
-  kinds = ends.kinds; read = ends.read;
-  written = Tells-then _ _ _ _ _ _ (λ before middle after w e. e ∙ ap (λ xs. xs ++ run_text net (arrivals_of_kinds ends.kinds)) w ∙ append_assoc before head (run_text net (arrivals_of_kinds ends.kinds))) put ends.written }
+  kinds = ends.kinds;
+  read = ends.read;
+  written = Tells-then _ _ _ _ _ _ (λ before middle after w e. e ∙ ap (λ xs. xs ++ run_text net (arrivals_of_kinds ends.kinds)) w ∙ append_assoc before head (run_text net (arrivals_of_kinds ends.kinds))) put ends.written;
+}
 with_head net head Read whole left was mid now put ends = record {
-  kinds = ends.kinds; read = ends.read;
-  written = behind_head net head ends.kinds was mid now put ends.written }
+  kinds = ends.kinds;
+  read = ends.read;
+  written = behind_head net head ends.kinds was mid now put ends.written;
+}
 with_head net head Write whole left was mid now put ends = record {
-  kinds = ends.kinds; read = ends.read;
-  written = Tells-then _ _ _ _ _ _ (λ before middle after w gain. GainsPrefix-then head (run_text net (arrivals_of_kinds ends.kinds)) before middle after w gain) put ends.written }
+  kinds = ends.kinds;
+  read = ends.read;
+  written = Tells-then _ _ _ _ _ _ (λ before middle after w gain. GainsPrefix-then head (run_text net (arrivals_of_kinds ends.kinds)) before middle after w gain) put ends.written;
+}
 with_head net head LineLimit whole left was mid now put ends = record {
-  kinds = ends.kinds; number = ends.number; read = ends.read;
-  written = behind_head net head ends.kinds was mid now put ends.written }
+  kinds = ends.kinds;
+  number = ends.number;
+  read = ends.read;
+  written = behind_head net head ends.kinds was mid now put ends.written;
+}
 with_head net head (Long n) whole left was mid now put ends = record {
-  kinds = ends.kinds; number = ends.number; read = ends.read;
-  written = behind_head net head ends.kinds was mid now put ends.written }
+  kinds = ends.kinds;
+  number = ends.number;
+  read = ends.read;
+  written = behind_head net head ends.kinds was mid now put ends.written;
+}
 with_head net head (Grammar n) whole left was mid now put ends = record {
-  kinds = ends.kinds; number = ends.number; read = ends.read;
-  written = behind_head net head ends.kinds was mid now put ends.written }
+  kinds = ends.kinds;
+  number = ends.number;
+  read = ends.read;
+  written = behind_head net head ends.kinds was mid now put ends.written;
+}
 
 -- the head itself was cut short
 pub head_cut : (net : Network) (head : List ℕ) (whole was now : Option (List ℕ)) → Tells was now (GainsPrefix head) → StopsWriting net head whole whole was now
 head_cut net head whole was now cut = record {
   kinds = [];
   read = Tells-same whole _ (λ text. (plain_kinds net text, starts_empty net text));
-  written = Tells-weaker _ _ _ _ (λ before after gain. GainsPrefix-longer head (head ++ run_text net []) before after (run_text net [], refl) gain) cut }
+  written = Tells-weaker _ _ _ _ (λ before after gain. GainsPrefix-longer head (head ++ run_text net []) before after (run_text net [], refl) gain) cut;
+}

@@ -96,7 +96,13 @@ fn finish<Out: Sink>(net: &Net, state: &State, out: &mut Out) -> RunEnd
 {
     let _ = net.movements();
     let queued = state.total_in() - state.total_out();
-    match put_end(out, state.period(), state.total_in(), state.total_out(), queued) {
+    match put_end(
+        out,
+        state.period(),
+        state.total_in(),
+        state.total_out(),
+        queued,
+    ) {
         Ok(()) => RunEnd::Done,
         Err(Failed) => RunEnd::Write,
     }
@@ -127,9 +133,15 @@ pub fn run_stream<In: Source, Out: Sink>(
         match cutter.next(input) {
             LineStep::Line => {
                 let line = cutter.line();
-                if let Some(end) =
-                    take_line(net, state, line, turn + 1, &mut arrivals, &mut stages, out)
-                {
+                if let Some(end) = take_line(
+                    net,
+                    state,
+                    line,
+                    turn + 1,
+                    &mut arrivals,
+                    &mut stages,
+                    out,
+                ) {
                     return end;
                 }
             }

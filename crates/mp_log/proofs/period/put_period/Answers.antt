@@ -30,6 +30,17 @@ pub returns-clause-bytes : goal.returns-clause-bytes
 returns-clause-bytes g c = λ counts is.
     let last : flat_map (λ q. 32 ∷ signed_decimal q) c.args.queues.now ≡ spaced counts = ap (λ zs. flat_map (λ q. 32 ∷ signed_decimal q) zs) is ∙ spaced_signed counts in
     let text : c.bytes.result.now ≡ period_line c.args.period c.args.arrivals.now c.args.stages.now counts ++ 10 ∷ [] =
-        c.bytes.ensures.value ∙ rw (c.push_text-5.ensures.held, c.push_spaced-3.ensures.held, last, c.push_text-4.ensures.held, c.push_spaced-2.ensures.held, c.push_text-3.ensures.held,
-            c.push_spaced.ensures.held, c.push_text-2.ensures.held, c.push_number.ensures.held, c.push_text.ensures.held, c.new-line.ensures) (simp append_assoc) in
+    c.bytes.ensures.value ∙ rw (
+      c.push_text-5.ensures.held,
+      c.push_spaced-3.ensures.held,
+      last,
+      c.push_text-4.ensures.held,
+      c.push_spaced-2.ensures.held,
+      c.push_text-3.ensures.held,
+      c.push_spaced.ensures.held,
+      c.push_text-2.ensures.held,
+      c.push_number.ensures.held,
+      c.push_text.ensures.held,
+      c.new-line.ensures,
+    ) (simp append_assoc) in
     subst (λ (xs : List ℕ). Tells (g.K.Sink.held c.args.out.now) (g.K.Sink.held c.put.new.self) (Puts c.put.result xs)) text c.put.ensures.bytes

@@ -7,11 +7,12 @@ use Rattle.mp_log.proofs.stream_line.read_counts.Goals as goal
 
 pub returns-then-not-push_count-clause-none : goal.returns-then-not-push_count-clause-none
 returns-then-not-push_count-clause-none c = λ _. (
-    elim (c.if-not-push_count.ensures.refused (search rules)) [
-      inl full ↦ too_many c.loop-at.into.items c.loop-at.rest.now c.args.line.now c.args.n c.loop-at.invariant.so_far (search rules)
+  elim (c.if-not-push_count.ensures.refused (search rules)) [
+    | inl full ↦ too_many c.loop-at.into.items c.loop-at.rest.now c.args.line.now c.args.n c.loop-at.invariant.so_far (search rules)
     | inr none ↦ none_read c.args.line.now c.args.n (part_fails c.loop-at.into.items c.loop-at.rest.now _ c.in-Some.at c.loop-at.invariant.so_far (search rules) none)
-    ],
-    search rules)
+  ],
+  search rules,
+)
 
 pub loop-at-preserved : goal.loop-at-preserved
 loop-at-preserved c =
@@ -20,11 +21,12 @@ loop-at-preserved c =
 
 pub returns-then-not-push_count-2-clause-none : goal.returns-then-not-push_count-2-clause-none
 returns-then-not-push_count-2-clause-none c = λ _. (
-    elim (c.if-not-push_count-2.ensures.refused (search rules)) [
-      inl full ↦ too_many c.loop-at.into.items c.loop-at.rest.now c.args.line.now c.args.n c.loop-at.invariant.so_far (search rules)
+  elim (c.if-not-push_count-2.ensures.refused (search rules)) [
+    | inl full ↦ too_many c.loop-at.into.items c.loop-at.rest.now c.args.line.now c.args.n c.loop-at.invariant.so_far (search rules)
     | inr none ↦ none_read c.args.line.now c.args.n (last_fails c.loop-at.into.items c.loop-at.rest.now _ c.loop-at.invariant.so_far (search rules) none)
-    ],
-    search rules)
+  ],
+  search rules,
+)
 
 pub returns-then-len-n-clause-none : goal.returns-then-len-n-clause-none
 returns-then-len-n-clause-none c =

@@ -30,7 +30,8 @@ loop-turn-preserved g c =
       on = c.take_line.ensures.on;
       period = omega (arith, c.take_line.ensures.period);
       in_later = search rules;
-      out_later = search rules }
+      out_later = search rules;
+    }
 
 pub returns-in-End-next-clause-ends : goal.returns-in-End-next-clause-ends
 returns-in-End-next-clause-ends g c =
