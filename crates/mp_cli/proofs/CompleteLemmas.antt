@@ -1,15 +1,15 @@
 -- Where nothing is wrong outside, a command does what was asked, or memory was wanting.
-use Rattle.std.proofs.Common.{◌≡◌, ◌≤◌, ◌^◌, ◌⊎◌, ◌+◌, ◌++◌, ◌∷◌, ℕ, List, [], length, refl, sym, ◌∙◌, ap, subst, arith, Some, None, Result, Ok, Err, inl, inr, IsSomeAnd}
+use Rattle.std.proofs.Common.{◌≡◌, ◌≤◌, ◌⊎◌, ◌+◌, ◌++◌, ◌∷◌, ℕ, List, [], length, refl, sym, ◌∙◌, ap, subst, arith, Some, Ok, Err, inl, inr, IsSomeAnd}
 use Rattle.std.specs.declared.option.Option.{Option}
 use Rattle.std.specs.List.{AllByRecursion}
 use Rattle.std.proofs.lemmas.List.{append-nil, length-append}
-use Rattle.mp_edge.specs.Outside.{Tells, Rose, OfFile, file_named}
+use Rattle.mp_edge.specs.Outside.{Tells, OfFile}
 use Rattle.mp_model.specs.Network.{Network}
 use Rattle.mp_model.specs.Stream.{LineKind}
 use Rattle.mp_model.specs.Stream.LineKind.{long_line, bad_line}
 use Rattle.mp_netfile.specs.Meaning.{file_meaning}
 use Rattle.mp_run.specs.Running.{IsTaken, StartsWith, RefusedAt, HasTooMany}
-use Rattle.mp_cli.specs.declared.command.Command.TheVariants.{Run, Show, Unknown}
+use Rattle.mp_cli.specs.declared.command.Command.TheVariants.{Run, Show}
 use Rattle.mp_cli.specs.declared.outcome.Outcome.{Outcome}
 use Rattle.mp_cli.specs.declared.outcome.Outcome.TheVariants.{Done, Words, Store, Network as BadNetwork, Long, Grammar, LineLimit, Read, Write, NoMemory}
 use Rattle.mp_cli.specs.Statuses.{status_of}

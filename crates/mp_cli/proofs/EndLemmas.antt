@@ -1,25 +1,24 @@
 -- How the outcomes of the top call come about.
-use Rattle.std.proofs.Common.{◌≡◌, ◌≤◌, ◌<◌, ◌⊎◌, ◌++◌, ◌∷◌, ℕ, List, [], length, true, false, refl, sym, ◌∙◌, ap, subst, arith, Some, None, Result, Ok, Err, inl, inr}
+use Rattle.std.proofs.Common.{◌≡◌, ◌≤◌, ◌<◌, ℕ, List, length, true, refl, sym, ◌∙◌, ap, subst, arith, Result, Ok, Err, inl, inr}
 use Rattle.std.specs.declared.option.Option.{Option}
 use Rattle.std.proofs.lemmas.Bool.Decides.{nat_tests}
-use Rattle.std.proofs.lemmas.List.{append-nil, append_assoc}
-use Rattle.std.specs.Prelude.{nat_lt, if◌then◌else◌, cond}
-use Rattle.mp_edge.specs.Outside.{Tells, Puts, Rose, HasCause, GainsPrefix, OfFile}
-use Rattle.mp_edge.proofs.Told.{Tells-weaker, Tells-then, Tells-same, OfFile-weaker}
-use Rattle.mp_edge.proofs.Gains.{IsPrefix-same, GainsPrefix-longer, GainsPrefix-then}
+use Rattle.std.proofs.lemmas.List.{append-nil}
+use Rattle.std.specs.Prelude.{nat_lt}
+use Rattle.mp_edge.specs.Outside.{Tells, Puts, HasCause, OfFile}
+use Rattle.mp_edge.proofs.Told.{Tells-same, OfFile-weaker}
 use Rattle.mp_model.specs.Network.{Network}
 use Rattle.mp_net.specs.declared.fault.NetRule.{NetRule}
 use Rattle.mp_net.specs.declared.fault.NetRule.TheVariants as rule
 use Rattle.mp_net.specs.declared.fault.Section.TheVariants as section
 use Rattle.mp_net.specs.declared.fault.Spot.{Spot}
-use Rattle.mp_netfile.specs.Meaning.{text_meaning, file_meaning}
+use Rattle.mp_netfile.specs.Meaning.{file_meaning}
 use Rattle.mp_cli.specs.declared.command.Command.{Command}
-use Rattle.mp_cli.specs.declared.command.Command.TheVariants.{Run, Show, Unknown}
+use Rattle.mp_cli.specs.declared.command.Command.TheVariants.{Run, Show}
 use Rattle.mp_cli.specs.declared.outcome.Outcome.{Outcome}
 use Rattle.mp_cli.specs.declared.outcome.Outcome.TheVariants.{Done, Words, Store, Network as BadNetwork, Long, Grammar, LineLimit, Read, Write, NoMemory}
 use Rattle.mp_cli.specs.Statuses.{status_of}
 use Rattle.mp_cli.specs.Messages.{message_of}
-use Rattle.mp_cli.specs.Ends.{head, OfNetwork, IsUntouched, Shows, ShowsPart, Does, IsCutShort, Means, Reports}
+use Rattle.mp_cli.specs.Ends.{head, OfNetwork, Means, Reports}
 use Rattle.mp_cli.specs.Opening.{IsRefusal}
 use Rattle.mp_run.specs.Running.{EndsAs}
 use Rattle.mp_run.specs.declared.run.RunEnd.{RunEnd}

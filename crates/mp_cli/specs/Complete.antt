@@ -1,6 +1,6 @@
 -- When a command must do what was asked.
 use Rattle.std.specs.Prelude.{◌≡◌, ◌≤◌, ◌^◌, ℕ, List, [], length, Option, Some, Ok}
-use Rattle.mp_edge.specs.Outside.{Rose, file_named}
+use Rattle.mp_edge.specs.Outside.{file_named}
 use Rattle.mp_model.specs.Network.{Network}
 use Rattle.mp_model.specs.Stream.{LineKind}
 use Rattle.mp_netfile.specs.Meaning.{file_meaning}

@@ -1,12 +1,11 @@
 -- What each outcome of the top call says of the files, the input and the output.
-use Rattle.std.specs.Prelude.{◌≡◌, ◌⊎◌, ◌++◌, ◌∷◌, ℕ, List, [], Option, Some, None, Ok, Err}
-use Rattle.mp_edge.specs.Outside.{Tells, Rose, GainsPrefix, OfFile, file_named}
+use Rattle.std.specs.Prelude.{◌≡◌, ◌⊎◌, ◌++◌, ◌∷◌, ℕ, List, [], Option, Ok, Err}
+use Rattle.mp_edge.specs.Outside.{Tells, Rose, GainsPrefix, OfFile}
 use Rattle.mp_model.specs.Network.{Network}
 use Rattle.mp_model.specs.Log.{first_line, text_of}
-use Rattle.mp_model.specs.Stream.{LineKind}
 use Rattle.mp_model.specs.Stream.LineKind.{long_line, bad_line}
 use Rattle.mp_netfile.specs.Meaning.{text_meaning, file_meaning}
-use Rattle.mp_run.specs.Running.{StartsWith, Finished, RefusedAt, HasTooMany, StopsReading, StopsWriting}
+use Rattle.mp_run.specs.Running.{Finished, RefusedAt, HasTooMany, StopsReading, StopsWriting}
 use Rattle.mp_cli.specs.declared.command.Command.{Command}
 use Rattle.mp_cli.specs.declared.command.Command.TheVariants.{Run, Show, Unknown}
 use Rattle.mp_cli.specs.declared.outcome.Outcome.{Outcome}

@@ -1,5 +1,5 @@
 -- How many links are fed.
-use Rattle.std.proofs.Common.{◌≡◌, ◌≤◌, ℕ, List, length, filter, arith, ◌∙◌}
+use Rattle.std.proofs.Common.{◌≤◌, ℕ, length, arith}
 use Rattle.std.specs.List.{range_with_len}
 use Rattle.std.proofs.lemmas.List.Sums.{length-filter, count_by-le-length}
 use Rattle.std.proofs.lemmas.List.FromFn.{length-range_with_len}

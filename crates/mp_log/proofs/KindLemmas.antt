@@ -1,15 +1,12 @@
 -- What a line is when its counts are known.
-use Rattle.std.proofs.Common.{◌≡◌, ◌<◌, ◌^◌, ℕ, List, [], ◌∷◌, Bool, true, false, cond, length, refl, sym, ◌∙◌, ap, Some, None, arith}
-use Rattle.std.specs.Prelude.{◌==◌, ◌&&◌, codes, filter}
+use Rattle.std.proofs.Common.{◌≡◌, ℕ, List, [], ◌∷◌, Bool, true, false, cond, length, refl, ◌∙◌, ap, Some, None}
+use Rattle.std.specs.Prelude.{◌==◌, ◌&&◌, codes}
 use Rattle.std.specs.declared.option.Option.{Option}
-use Rattle.std.specs.List.{slice_split, All, list_all}
+use Rattle.std.specs.List.{slice_split}
 use Rattle.std.specs.Str.{bytes_eq}
-use Rattle.std.specs.Str.Parse.{digits_value}
-use Rattle.std.proofs.lemmas.Option.{same_Some}
-use Rattle.std.proofs.lemmas.Bool.Decides.{nat_tests}
 use Rattle.mp_model.specs.Network.{Network, fed, has, junction_numbers, link_numbers}
-use Rattle.mp_model.specs.Stream.{LineKind, is_digit, is_plain, count_of, counts_of_parts, onto, of_length, read_counts, hear_kind, decide_kind, words_kind, counts_kind, plain_kind, is_skipped, without_events}
-use Rattle.mp_model.specs.Stream.LineKind.{hear_line, decide_line, bad_line, skipped_line, arrivals_line}
+use Rattle.mp_model.specs.Stream.{LineKind, count_of, read_counts, hear_kind, decide_kind, words_kind, counts_kind, plain_kind, is_skipped, without_events}
+use Rattle.mp_model.specs.Stream.LineKind.{hear_line, decide_line, bad_line, skipped_line}
 
 bad_either : (b : Bool) (kind : LineKind) → without_events kind ≡ bad_line → without_events (cond b kind bad_line) ≡ bad_line
 bad_either true kind is = is

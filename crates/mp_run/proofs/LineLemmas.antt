@@ -1,11 +1,11 @@
 -- The kinds of the lines of a text whose first line is known, and of the arrivals on them.
-use Rattle.std.proofs.Common.{◌≡◌, ◌≤◌, ◌<◌, ℕ, ◌+◌, List, [], ◌∷◌, ◌++◌, length, map, true, false, cond, refl, sym, ◌∙◌, ap, subst, arith}
+use Rattle.std.proofs.Common.{◌≡◌, ◌≤◌, ◌<◌, ℕ, List, [], ◌∷◌, ◌++◌, length, map, true, false, cond, refl, sym, ◌∙◌, ap, arith}
 use Rattle.std.specs.Prelude.{nat_lt}
-use Rattle.std.specs.List.{AllByRecursion, flat_map}
-use Rattle.std.proofs.lemmas.List.{append_assoc, append-nil}
+use Rattle.std.specs.List.{AllByRecursion}
+use Rattle.std.proofs.lemmas.List.{append_assoc}
 use Rattle.std.proofs.lemmas.Bool.Decides.{nat_tests}
 use Rattle.mp_model.specs.Network.{Network}
-use Rattle.mp_model.specs.Stream.{LineKind, raw_lines, without_return, plain_kind, line_kind, without_events, plain_kinds, arrivals_of_kinds}
+use Rattle.mp_model.specs.Stream.{LineKind, without_return, plain_kind, line_kind, without_events, plain_kinds, arrivals_of_kinds}
 use Rattle.mp_model.specs.Stream.LineKind.{skipped_line, arrivals_line, long_line, bad_line, hear_line, decide_line}
 use Rattle.mp_text.specs.Cutting.{CutsLine, StartsLong}
 use Rattle.mp_run.specs.Running.{IsTaken, StartsWith}

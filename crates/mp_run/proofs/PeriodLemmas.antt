@@ -1,16 +1,16 @@
 -- One period and the end, from what the calls say.
-use Rattle.std.proofs.Common.{◌≡◌, ◌≤◌, ◌<◌, ◌^◌, ℕ, ℤ, pos, zero, suc, ◌+◌, ◌-◌, List, [], ◌∷◌, ◌++◌, length, map, sum, sum_by, get_or, refl, sym, ◌∙◌, ap, subst, arith, Result, Ok, Err, OnOk, OnErr}
+use Rattle.std.proofs.Common.{◌≡◌, ◌≤◌, ◌<◌, ◌^◌, ℕ, ℤ, pos, ◌+◌, ◌-◌, List, [], ◌∷◌, ◌++◌, length, map, sum, sum_by, refl, sym, ◌∙◌, ap, subst, arith, Result, Ok, Err, OnOk, OnErr}
 use Rattle.std.specs.declared.option.Option.{Option}
-use Rattle.std.specs.List.{range_with_len, flat_map, All, AllByRecursion}
+use Rattle.std.specs.List.{range_with_len, All, AllByRecursion}
 use Rattle.std.proofs.lemmas.List.{append-nil, append_assoc, length-append, length-map, get_or_at}
 use Rattle.std.proofs.lemmas.List.Sums.{sum_by-cons}
 use Rattle.std.proofs.lemmas.List.Elements.{All-cons}
-use Rattle.mp_model.specs.Network.{Network, Junction, movement_numbers, entry, fed}
+use Rattle.mp_model.specs.Network.{Network, Junction, movement_numbers, entry}
 use Rattle.mp_model.specs.NetworkRules.{IsInRange}
 use Rattle.mp_model.specs.Arrivals.{arrivals_of, HasCounts}
 use Rattle.mp_model.specs.Step.{State, AreStages, queue, queued, step}
-use Rattle.mp_model.specs.Run.{greatest_stages, advance, state_after}
-use Rattle.mp_model.specs.Log.{text_of, period_line, line_after, lines_from, end_line, end_line_of}
+use Rattle.mp_model.specs.Run.{greatest_stages, advance}
+use Rattle.mp_model.specs.Log.{text_of, period_line, line_after, end_line, end_line_of}
 use Rattle.mp_edge.specs.Outside.{Tells, Puts, GainsPrefix}
 use Rattle.mp_edge.proofs.Told.{Tells-weaker}
 use Rattle.mp_run.specs.Running.{Closed, CutShort, Finishes}

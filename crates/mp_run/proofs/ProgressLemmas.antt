@@ -1,7 +1,6 @@
 -- A run over a stream, line by line.
-use Rattle.std.proofs.Common.{◌≡◌, ◌≤◌, ◌^◌, ℕ, ◌+◌, List, [], ◌∷◌, ◌++◌, length, map, refl, sym, ◌∙◌, ap, subst, Some, None, arith}
+use Rattle.std.proofs.Common.{◌≡◌, ◌^◌, ℕ, ◌+◌, List, [], ◌∷◌, ◌++◌, length, refl, sym, ◌∙◌, ap, subst, Some, None, arith}
 use Rattle.std.specs.declared.option.Option.{Option}
-use Rattle.std.specs.List.{flat_map}
 use Rattle.std.proofs.lemmas.List.{append_assoc, append-nil, length-append}
 use Rattle.std.proofs.lemmas.List.Concat.{flat_map-append}
 use Rattle.mp_edge.specs.Outside.{Tells, IsPrefix, GainsPrefix}
@@ -10,14 +9,14 @@ use Rattle.mp_edge.proofs.Gains.{GainsPrefix-longer, GainsPrefix-then}
 use Rattle.mp_model.specs.Network.{Network}
 use Rattle.mp_model.specs.Step.{State}
 use Rattle.mp_model.specs.Run.{opening, advance, state_after}
-use Rattle.mp_model.specs.Log.{text_of, line_after, lines_from, period_lines, end_line, run_lines, run_text}
+use Rattle.mp_model.specs.Log.{text_of, line_after, lines_from, period_lines, end_line, run_text}
 use Rattle.mp_model.specs.Stream.{LineKind, plain_kind, plain_kinds, without_events, arrivals_of_kinds}
 use Rattle.mp_model.specs.Stream.LineKind.{skipped_line, arrivals_line, long_line, bad_line, hear_line, decide_line}
 use Rattle.mp_text.specs.Cut.{Cut}
-use Rattle.mp_text.specs.Cutting.{Cuts, CutsLine}
+use Rattle.mp_text.specs.Cutting.{Cuts}
 use Rattle.mp_text.specs.declared.cutter.LineStep.TheVariants.{Line, End, TooLong, Failed}
 use Rattle.mp_step.specs.Standing.{Standing, Stands}
-use Rattle.mp_run.specs.Running.{EndsAs, IsTaken, StartsWith, Finished, RefusedAt, HasTooMany, StopsReading, StopsWriting, Closed, CutShort, TakesKind, CutsKind, TakesLine, Finishes, Progress}
+use Rattle.mp_run.specs.Running.{EndsAs, IsTaken, StartsWith, RefusedAt, HasTooMany, StopsReading, StopsWriting, TakesKind, CutsKind, TakesLine, Finishes, Progress}
 use Rattle.mp_run.specs.declared.run.RunEnd.{RunEnd}
 use Rattle.mp_run.specs.declared.run.RunEnd.TheVariants.{Done, Read, Write, LineLimit, Long, Grammar}
 use Rattle.mp_run.proofs.LineLemmas.{first_kind, first_long, starts_empty, starts_more, arrivals_more, arrivals_skipped}

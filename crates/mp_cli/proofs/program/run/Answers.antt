@@ -1,4 +1,4 @@
-use Rattle.std.proofs.Common.{◌≡◌, sym, subst}
+use Rattle.std.proofs.Common.{sym, subst}
 use Rattle.mp_cli.specs.declared.outcome.Outcome.{Outcome}
 use Rattle.mp_cli.specs.Ends.{head}
 use Rattle.mp_cli.specs.Acts.{RunMeans}

@@ -1,8 +1,7 @@
-use Rattle.std.proofs.Common.{◌≡◌, ◌⊎◌, ◌+◌, ◌<◌, ◌^◌, [], ◌∷◌, ◌++◌, ℕ, List, Some, None, length, take, drop, arith, sym, ◌∙◌, ap, inl, inr, rules, false, refl}
+use Rattle.std.proofs.Common.{◌<◌, ◌^◌, [], ◌∷◌, Some, length, arith, sym, ◌∙◌, ap, inl, inr, rules}
 use Rattle.std.proofs.lemmas.List.{length-append}
 use Rattle.std.proofs.lemmas.List.Elements.{All-push}
-use Rattle.mp_model.specs.Stream.{read_counts}
-use Rattle.mp_log.proofs.CountLemmas.{comma_within, part_count, read_more, part_fails, last_more, last_fails, too_many, none_read, all_read, few_read}
+use Rattle.mp_log.proofs.CountLemmas.{comma_within, read_more, part_fails, last_more, last_fails, too_many, none_read, all_read, few_read}
 use Rattle.mp_log.proofs.stream_line.read_counts.Goals as goal
 
 pub returns-then-not-push_count-clause-none : goal.returns-then-not-push_count-clause-none

@@ -1,5 +1,4 @@
-use Rattle.std.proofs.Common.{◌≡◌, ◌≤◌, length, arith, sym, ◌∙◌, ap, rules}
-use Rattle.mp_model.specs.Network.{fed}
+use Rattle.std.proofs.Common.{length, arith, sym, ◌∙◌, ap, rules}
 use Rattle.mp_model.specs.Stream.{read_counts}
 use Rattle.mp_log.proofs.FedLemmas.{fed_few}
 use Rattle.mp_log.proofs.KindLemmas.{other_kind}

@@ -1,4 +1,4 @@
-use Rattle.std.proofs.Common.{arith, rules}
+use Rattle.std.proofs.Common.{arith}
 use Rattle.mp_run.proofs.PeriodLemmas.{finishes_done, finishes_cut}
 use Rattle.mp_run.proofs.run.finish.Goals as goal
 

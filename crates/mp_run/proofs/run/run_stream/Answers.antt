@@ -1,4 +1,4 @@
-use Rattle.std.proofs.Common.{◌≡◌, ◌+◌, ◌^◌, ℕ, List, arith, rules, subst, Some, None}
+use Rattle.std.proofs.Common.{◌+◌, ℕ, List, arith, rules, subst, Some, None}
 use Rattle.mp_model.specs.Stream.{plain_kind, without_events}
 use Rattle.mp_run.specs.Running.{TakesLine}
 use Rattle.mp_run.proofs.ProgressLemmas.{progress_start, progress_line, progress_stop, progress_end}

@@ -1,4 +1,4 @@
-use Rattle.std.proofs.Common.{◌≡◌, ◌≤◌}
+use Rattle.std.proofs.Common.{◌≤◌}
 use Rattle.mp_step.specs.Standing.{IsOn}
 use Rattle.mp_run.specs.Running.{Progress}
 use Rattle.mp_run.proofs.run.run_stream.Given as goal
