@@ -20,6 +20,9 @@ const LOOP: &str =
 const NO_EXIT: &str =
     "version = 1\nshares = 1\nper = 2\n[[link]]\nname = \"x\"\nburst = 1\nrate = 1\n[[link]]\nname = \"y\"\n[[movement]]\nname = \"xy\"\nfrom = \"x\"\nto = \"y\"\nshare = 1\nflow = 1\n[[movement]]\nname = \"yo\"\nfrom = \"y\"\nto = \"x\"\nshare = 1\nflow = 1\n[[junction]]\nname = \"j1\"\nstages = [[\"xy\"]]\n[[junction]]\nname = \"j2\"\nstages = [[\"yo\"]]\n";
 
+const CORRIDOR: &str =
+    "version = 1\nshares = 100\nper = 40\n[[link]]\nname = \"e1\"\nburst = 30\nrate = 600\n[[link]]\nname = \"e2\"\n[[link]]\nname = \"e3\"\n[[link]]\nname = \"w3\"\nburst = 30\nrate = 500\n[[link]]\nname = \"w2\"\n[[link]]\nname = \"w1\"\n[[link]]\nname = \"n1\"\nburst = 10\nrate = 200\n[[link]]\nname = \"n2\"\nburst = 10\nrate = 200\n[[link]]\nname = \"n3\"\nburst = 10\nrate = 200\n[[link]]\nname = \"s1\"\nburst = 10\nrate = 200\n[[link]]\nname = \"s2\"\nburst = 10\nrate = 200\n[[link]]\nname = \"s3\"\nburst = 10\nrate = 200\n[[movement]]\nname = \"e1.t\"\nfrom = \"e1\"\nto = \"e2\"\nshare = 70\nflow = 90\n[[movement]]\nname = \"e1.l\"\nfrom = \"e1\"\nto = \"out\"\nshare = 10\nflow = 40\n[[movement]]\nname = \"e1.r\"\nfrom = \"e1\"\nto = \"out\"\nshare = 20\nflow = 40\n[[movement]]\nname = \"e2.t\"\nfrom = \"e2\"\nto = \"e3\"\nshare = 70\nflow = 90\n[[movement]]\nname = \"e2.l\"\nfrom = \"e2\"\nto = \"out\"\nshare = 10\nflow = 40\n[[movement]]\nname = \"e2.r\"\nfrom = \"e2\"\nto = \"out\"\nshare = 20\nflow = 40\n[[movement]]\nname = \"e3.t\"\nfrom = \"e3\"\nto = \"out\"\nshare = 70\nflow = 90\n[[movement]]\nname = \"e3.l\"\nfrom = \"e3\"\nto = \"out\"\nshare = 10\nflow = 40\n[[movement]]\nname = \"e3.r\"\nfrom = \"e3\"\nto = \"out\"\nshare = 20\nflow = 40\n[[movement]]\nname = \"w3.t\"\nfrom = \"w3\"\nto = \"w2\"\nshare = 70\nflow = 90\n[[movement]]\nname = \"w3.l\"\nfrom = \"w3\"\nto = \"out\"\nshare = 10\nflow = 40\n[[movement]]\nname = \"w3.r\"\nfrom = \"w3\"\nto = \"out\"\nshare = 20\nflow = 40\n[[movement]]\nname = \"w2.t\"\nfrom = \"w2\"\nto = \"w1\"\nshare = 70\nflow = 90\n[[movement]]\nname = \"w2.l\"\nfrom = \"w2\"\nto = \"out\"\nshare = 10\nflow = 40\n[[movement]]\nname = \"w2.r\"\nfrom = \"w2\"\nto = \"out\"\nshare = 20\nflow = 40\n[[movement]]\nname = \"w1.t\"\nfrom = \"w1\"\nto = \"out\"\nshare = 70\nflow = 90\n[[movement]]\nname = \"w1.l\"\nfrom = \"w1\"\nto = \"out\"\nshare = 10\nflow = 40\n[[movement]]\nname = \"w1.r\"\nfrom = \"w1\"\nto = \"out\"\nshare = 20\nflow = 40\n[[movement]]\nname = \"n1.t\"\nfrom = \"n1\"\nto = \"out\"\nshare = 40\nflow = 45\n[[movement]]\nname = \"n1.l\"\nfrom = \"n1\"\nto = \"e2\"\nshare = 30\nflow = 40\n[[movement]]\nname = \"n1.r\"\nfrom = \"n1\"\nto = \"out\"\nshare = 30\nflow = 40\n[[movement]]\nname = \"n2.t\"\nfrom = \"n2\"\nto = \"out\"\nshare = 40\nflow = 45\n[[movement]]\nname = \"n2.l\"\nfrom = \"n2\"\nto = \"e3\"\nshare = 30\nflow = 40\n[[movement]]\nname = \"n2.r\"\nfrom = \"n2\"\nto = \"w1\"\nshare = 30\nflow = 40\n[[movement]]\nname = \"n3.t\"\nfrom = \"n3\"\nto = \"out\"\nshare = 40\nflow = 45\n[[movement]]\nname = \"n3.l\"\nfrom = \"n3\"\nto = \"out\"\nshare = 30\nflow = 40\n[[movement]]\nname = \"n3.r\"\nfrom = \"n3\"\nto = \"w2\"\nshare = 30\nflow = 40\n[[movement]]\nname = \"s1.t\"\nfrom = \"s1\"\nto = \"out\"\nshare = 40\nflow = 45\n[[movement]]\nname = \"s1.l\"\nfrom = \"s1\"\nto = \"out\"\nshare = 30\nflow = 40\n[[movement]]\nname = \"s1.r\"\nfrom = \"s1\"\nto = \"e2\"\nshare = 30\nflow = 40\n[[movement]]\nname = \"s2.t\"\nfrom = \"s2\"\nto = \"out\"\nshare = 40\nflow = 45\n[[movement]]\nname = \"s2.l\"\nfrom = \"s2\"\nto = \"w1\"\nshare = 30\nflow = 40\n[[movement]]\nname = \"s2.r\"\nfrom = \"s2\"\nto = \"e3\"\nshare = 30\nflow = 40\n[[movement]]\nname = \"s3.t\"\nfrom = \"s3\"\nto = \"out\"\nshare = 40\nflow = 45\n[[movement]]\nname = \"s3.l\"\nfrom = \"s3\"\nto = \"w2\"\nshare = 30\nflow = 40\n[[movement]]\nname = \"s3.r\"\nfrom = \"s3\"\nto = \"out\"\nshare = 30\nflow = 40\n[[junction]]\nname = \"j1\"\nstages = [[\"e1.t\", \"e1.r\", \"w1.t\", \"w1.r\"], [\"e1.l\", \"w1.l\"], [\"n1.t\", \"n1.r\", \"s1.t\", \"s1.r\"], [\"n1.l\", \"s1.l\"]]\n[[junction]]\nname = \"j2\"\nstages = [[\"e2.t\", \"e2.r\", \"w2.t\", \"w2.r\"], [\"e2.l\", \"w2.l\"], [\"n2.t\", \"n2.r\", \"s2.t\", \"s2.r\"], [\"n2.l\", \"s2.l\"]]\n[[junction]]\nname = \"j3\"\nstages = [[\"e3.t\", \"e3.r\", \"w3.t\", \"w3.r\"], [\"e3.l\", \"w3.l\"], [\"n3.t\", \"n3.r\", \"s3.t\", \"s3.r\"], [\"n3.l\", \"s3.l\"]]\n";
+
 /// What is handed to the top call: the words, the stream with the size of its pieces, and the calls that
 /// fail outside.
 #[derive(Drop)]
@@ -68,6 +71,7 @@ fn store(alloc: Global, fails: &[u64]) -> Result<MemStore, Fail> {
         ("fed-tandem", FED_TANDEM),
         ("loop", LOOP),
         ("no-exit", NO_EXIT),
+        ("corridor", CORRIDOR),
     ] {
         let name = String::from_str(alloc, name)?;
         files.push((name, Vec::from_slice(alloc, text.as_bytes())?))?;
@@ -96,7 +100,7 @@ fn check(
     let mut store = store(alloc, call.store_fails)?;
     let piece = call.piece.max(1);
     let mut input = MemSource::new(alloc, call.stream, piece, call.read_fails)?;
-    let mut output = MemSink::new(alloc, 4096, call.write_fails)?;
+    let mut output = MemSink::new(alloc, 8192, call.write_fails)?;
     let mut errors = MemSink::new(alloc, 4096, &[])?;
     let answer = top(
         alloc,
@@ -281,6 +285,37 @@ fn answers_faults(rt: HostRuntime) -> Result<(), Fail> {
         cut,
         "write\n",
     )
+}
+
+// Forty periods of the corridor; a model apart from this code gives the totals.
+#[test]
+fn runs_the_corridor(rt: HostRuntime) -> Result<(), Fail> {
+    let alloc = rt.alloc();
+    let words = words_of(alloc, &call(&["run", "corridor"], b""))?;
+    let mut there = store(alloc, &[])?;
+    let mut stream = Vec::new(alloc);
+    for _ in 0..40 {
+        stream.extend_from_slice(b"15,12,5,5,5,5,5,5\n")?;
+    }
+    let mut input = MemSource::new(alloc, &stream, 64, &[])?;
+    let mut output = MemSink::new(alloc, 8192, &[])?;
+    let mut errors = MemSink::new(alloc, 64, &[])?;
+    let status = top(
+        alloc,
+        &words,
+        &mut there,
+        &mut input,
+        &mut output,
+        &mut errors,
+    );
+    assert_eq!(rt; status, 0);
+    assert!(rt;
+        output
+            .bytes()
+            .ends_with(b"\nend 40 in 2280 out 2007 queued 273\n")
+    );
+    assert_eq!(rt; errors.bytes().len(), 0);
+    Ok(())
 }
 
 // What `show` writes is a file of the same network: it is shown again as the same text.
