@@ -13,7 +13,7 @@ use Rattle.mp_cli.specs.declared.command.Command.TheVariants.{Run, Show}
 use Rattle.mp_cli.specs.declared.outcome.Outcome.{Outcome}
 use Rattle.mp_cli.specs.declared.outcome.Outcome.TheVariants.{Done, Words, Store, Network as BadNetwork, Long, Grammar, LineLimit, Read, Write, NoMemory}
 use Rattle.mp_cli.specs.Statuses.{status_of}
-use Rattle.mp_cli.specs.Ends.{head, OfNetwork, Means}
+use Rattle.mp_cli.specs.Ends.{head, OfNetwork, Acts, Means}
 use Rattle.mp_cli.specs.Complete.{IsGoodFile, IsGoodStream}
 use Rattle.mp_cli.proofs.EndLemmas.{Files}
 
@@ -76,11 +76,11 @@ complete_run Write files name left rest was now good stream s r w means = absurd
 complete_run Words files name left rest was now good stream s r w means = absurd (let other = means.0 in cc)
 complete_run (BadNetwork rule spot) files name left rest was now good stream s r w means = absurd (not_refused files name good (rule, spot) means.0)
 complete_run (Long n) files name left rest was now good stream s r w means =
-    absurd (no_refusal good.net long_line n left rest was now stream (net_of_good files name (λ net. RefusedAt net head long_line n left rest was now) good means.1))
+    absurd (no_refusal good.net long_line n left rest was now stream (net_of_good files name (λ net. Acts (Long n) Run net left rest was now) good means).1)
 complete_run (Grammar n) files name left rest was now good stream s r w means =
-    absurd (no_refusal good.net bad_line n left rest was now stream (net_of_good files name (λ net. RefusedAt net head bad_line n left rest was now) good means.1))
+    absurd (no_refusal good.net bad_line n left rest was now stream (net_of_good files name (λ net. Acts (Grammar n) Run net left rest was now) good means).1)
 complete_run LineLimit files name left rest was now good stream s r w means =
-    absurd (not_too_many good.net left rest was now stream (net_of_good files name (λ net. HasTooMany net head left rest was now) good means.1))
+    absurd (not_too_many good.net left rest was now stream (net_of_good files name (λ net. Acts LineLimit Run net left rest was now) good means).1)
 
 pub complete_show : (outcome : Outcome) (files : Files) (name : List ℕ) (left rest was now : Option (List ℕ)) → IsGoodFile files name
     → (outcome ≡ Store → ⊥) → (outcome ≡ Write → ⊥) → Means outcome Show files name left rest was now → IsDoneUnlessMemory (status_of outcome)
@@ -90,7 +90,4 @@ complete_show Store files name left rest was now good s w means = absurd (s refl
 complete_show Write files name left rest was now good s w means = absurd (w refl)
 complete_show Words files name left rest was now good s w means = absurd (let other = means.0 in cc)
 complete_show (BadNetwork rule spot) files name left rest was now good s w means = absurd (not_refused files name good (rule, spot) means.0)
-complete_show (Long n) files name left rest was now good s w means = absurd (let other = means.0 in cc)
-complete_show (Grammar n) files name left rest was now good s w means = absurd (let other = means.0 in cc)
-complete_show LineLimit files name left rest was now good s w means = absurd (let other = means.0 in cc)
-complete_show Read files name left rest was now good s w means = absurd (let other = means.0 in cc)
+complete_show outcome files name left rest was now good s w means = absurd (let other = (net_of_good files name (λ net. Acts outcome Show net left rest was now) good means).0 in cc)

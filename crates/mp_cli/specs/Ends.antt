@@ -35,30 +35,40 @@ Shows net before after = (text : List ℕ) × (text_meaning text ≡ Ok net) × 
 abbrev pub ShowsPart : Network → List ℕ → List ℕ → Type 0
 ShowsPart net before after = (text : List ℕ) × (text_meaning text ≡ Ok net) × GainsPrefix text before after
 
--- What a command has done where it did what was asked.
-abbrev pub Does : Command → Option (List (List ℕ × List ℕ)) → List ℕ → Option (List ℕ) → Option (List ℕ) → Option (List ℕ) → Option (List ℕ) → Type 0
-Does Run files name left rest was now = OfNetwork files name (λ net. Finished net head left rest was now)
-Does Show files name left rest was now = (rest ≡ left) × OfNetwork files name (λ net. Tells was now (Shows net))
-Does Unknown files name left rest was now = ⊥
+-- What a command has done on a network where it did what was asked; a network is shown without a look at the input.
+abbrev pub Did : Command → Network → Option (List ℕ) → Option (List ℕ) → Option (List ℕ) → Option (List ℕ) → Type 0
+Did Run net left rest was now = Finished net head left rest was now
+Did Show net left rest was now = (rest ≡ left) × Tells was now (Shows net)
+Did Unknown net left rest was now = ⊥
 
--- What a command has done where a write failed.
-abbrev pub IsCutShort : Command → Option (List (List ℕ × List ℕ)) → List ℕ → Option (List ℕ) → Option (List ℕ) → Option (List ℕ) → Option (List ℕ) → Type 0
-IsCutShort Run files name left rest was now = OfNetwork files name (λ net. StopsWriting net head left rest was now)
-IsCutShort Show files name left rest was now = (rest ≡ left) × OfNetwork files name (λ net. Tells was now (ShowsPart net))
-IsCutShort Unknown files name left rest was now = ⊥
+-- What a command has done on a network where a write failed.
+abbrev pub WasCutShort : Command → Network → Option (List ℕ) → Option (List ℕ) → Option (List ℕ) → Option (List ℕ) → Type 0
+WasCutShort Run net left rest was now = StopsWriting net head left rest was now
+WasCutShort Show net left rest was now = (rest ≡ left) × Tells was now (ShowsPart net)
+WasCutShort Unknown net left rest was now = ⊥
+
+-- This is what each outcome says of a command on a network: of the input and the output.
+abbrev pub Acts : Outcome → Command → Network → Option (List ℕ) → Option (List ℕ) → Option (List ℕ) → Option (List ℕ) → Type 0
+Acts Done command net left rest was now = Did command net left rest was now
+Acts Write command net left rest was now = WasCutShort command net left rest was now
+Acts NoMemory command net left rest was now = IsUntouched left rest was now
+Acts (Long n) command net left rest was now = (command ≡ Run) × RefusedAt net head long_line n left rest was now
+Acts (Grammar n) command net left rest was now = (command ≡ Run) × RefusedAt net head bad_line n left rest was now
+Acts LineLimit command net left rest was now = (command ≡ Run) × HasTooMany net head left rest was now
+Acts Read command net left rest was now = (command ≡ Run) × StopsReading net head left rest was now
+Acts outcome command net left rest was now = ⊥
+
+-- What a command has done where it did what was asked of the network of the file.
+abbrev pub Does : Command → Option (List (List ℕ × List ℕ)) → List ℕ → Option (List ℕ) → Option (List ℕ) → Option (List ℕ) → Option (List ℕ) → Type 0
+Does command files name left rest was now = OfNetwork files name (λ net. Did command net left rest was now)
 
 -- This is what each outcome says of the words, the files, the input and the output.
 abbrev pub Means : Outcome → Command → Option (List (List ℕ × List ℕ)) → List ℕ → Option (List ℕ) → Option (List ℕ) → Option (List ℕ) → Option (List ℕ) → Type 0
-Means Done command files name left rest was now = Does command files name left rest was now
 Means Words command files name left rest was now = (command ≡ Unknown) × IsUntouched left rest was now
 Means Store command files name left rest was now = IsUntouched left rest was now
 Means (BadNetwork rule spot) command files name left rest was now = OfFile files name (λ bytes. file_meaning bytes ≡ Err (rule, spot)) × IsUntouched left rest was now
-Means (Long n) command files name left rest was now = (command ≡ Run) × OfNetwork files name (λ net. RefusedAt net head long_line n left rest was now)
-Means (Grammar n) command files name left rest was now = (command ≡ Run) × OfNetwork files name (λ net. RefusedAt net head bad_line n left rest was now)
-Means LineLimit command files name left rest was now = (command ≡ Run) × OfNetwork files name (λ net. HasTooMany net head left rest was now)
-Means Read command files name left rest was now = (command ≡ Run) × OfNetwork files name (λ net. StopsReading net head left rest was now)
-Means Write command files name left rest was now = IsCutShort command files name left rest was now
 Means NoMemory command files name left rest was now = IsUntouched left rest was now
+Means outcome command files name left rest was now = OfNetwork files name (λ net. Acts outcome command net left rest was now)
 
 -- The line of the outcome was put on the error output, or a prefix of it where its count of faults rose; and nothing where there is no line.
 abbrev pub Reports : List ℕ → Outcome → Option (List ℕ) → Option (List ℕ) → ℕ → ℕ → Type 0

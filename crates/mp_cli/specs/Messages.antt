@@ -53,12 +53,4 @@ plain_message NoMemory = codes "memory\n"
 -- This is the line of an outcome, with the name of the file: none where all was done.
 abbrev pub message_of : List ℕ → Outcome → List ℕ
 message_of name Store = codes "store " ++ (name ++ 10 ∷ [])
-message_of name Done = []
-message_of name Words = plain_message Words
-message_of name (Network rule spot) = plain_message (Network rule spot)
-message_of name (Long n) = plain_message (Long n)
-message_of name (Grammar n) = plain_message (Grammar n)
-message_of name LineLimit = plain_message LineLimit
-message_of name Read = plain_message Read
-message_of name Write = plain_message Write
-message_of name NoMemory = plain_message NoMemory
+message_of name outcome = plain_message outcome

@@ -1,9 +1,9 @@
 //! The top call.
-ghost use Rattle.std.specs.Prelude.{◌≡◌, ◌≤◌, ◌⊎◌, ◌↔◌, IfOk, IfErr, Ok, Err, map, string_bytes};
+ghost use Rattle.std.specs.Prelude.{◌≡◌, ◌≤◌, ◌⊎◌, ◌↔◌, ℕ, List, Option, IfOk, IfErr, Ok, Err, map, string_bytes};
 ghost use Rattle.mp_edge.specs.Outside.{Rose, Tells};
 ghost use Rattle.mp_cli.specs.Commands.{command_of, name_of};
-ghost use Rattle.mp_cli.specs.Ends.{OfNetwork, IsUntouched, Means, Does, IsCutShort, Reports, IsEnd};
-ghost use Rattle.mp_cli.specs.Acts.{outcome_of, RunMeans, ShowMeans};
+ghost use Rattle.mp_cli.specs.Ends.{OfNetwork, Acts, Means, Does, IsEnd};
+ghost use Rattle.mp_cli.specs.Acts.{outcome_of};
 ghost use Rattle.mp_cli.specs.Complete.{IsGoodFile, IsGoodStream};
 ghost use Rattle.mp_cli.specs.Opening.{IsRefusal};
 
@@ -65,7 +65,7 @@ fn outcome_of(end: RunEnd) -> Outcome
 
 // Writes the log of the stream's run. All memory is taken before the first byte is put.
 fn run<In: Source, Out: Sink>(alloc: Global, net: &Net, input: &mut In, out: &mut Out) -> Outcome
-    ensures runs { RunMeans result net.now (In.left input.old) (In.left input.new) (Out.held out.old) (Out.held out.new) }
+    ensures acts { Acts result Command.Run net.now (In.left input.old) (In.left input.new) (Out.held out.old) (Out.held out.new) }
     ensures in_later { In.faults input.old ≤ In.faults input.new }
     ensures out_later { Out.faults out.old ≤ Out.faults out.new }
     ensures read { result ≡ Outcome.Read → Rose (In.faults input.old) (In.faults input.new) }
@@ -82,7 +82,7 @@ fn run<In: Source, Out: Sink>(alloc: Global, net: &Net, input: &mut In, out: &mu
 
 // Writes the network, as a file.
 fn show<Out: Sink>(alloc: Global, net: &Net, out: &mut Out) -> Outcome
-    ensures shows { ShowMeans result net.now (Out.held out.old) (Out.held out.new) }
+    ensures acts { (left : Option (List ℕ)) → Acts result Command.Show net.now left left (Out.held out.old) (Out.held out.new) }
     ensures out_later { Out.faults out.old ≤ Out.faults out.new }
     ensures write { result ≡ Outcome.Write → Rose (Out.faults out.old) (Out.faults out.new) }
 {
