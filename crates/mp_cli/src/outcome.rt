@@ -2,7 +2,27 @@
 ghost use Rattle.std.specs.Prelude.{◌≡◌};
 ghost use Rattle.mp_cli.specs.Statuses.{status_of};
 
+use mp_cert::CertFault;
+use mp_flow::Place;
 use mp_net::{NetRule, Spot};
+
+/// One of the files that the words name.
+#[derive(Clone, Copy, Debug, PartialEq, Eq)]
+pub enum FileRole {
+    /// The network file.
+    Net,
+    /// The other file: a certificate or a vector.
+    Other,
+}
+
+/// What the text of the other file is to be.
+#[derive(Clone, Copy, Debug, PartialEq, Eq)]
+pub enum TextKind {
+    /// A certificate.
+    Certificate,
+    /// A vector against the network.
+    Vector,
+}
 
 /// How a command ends.
 #[derive(Clone, Copy, Debug, PartialEq, Eq)]
@@ -11,10 +31,22 @@ pub enum Outcome {
     Done,
     /// The words are not listed.
     Words,
-    /// The store met a fault.
-    Store,
+    /// The store met a fault at this file.
+    Store(FileRole),
     /// The network file breaks the rule first, there.
     Network { rule: NetRule, spot: Spot },
+    /// The other file has more than 1,048,576 bytes.
+    LongText(TextKind),
+    /// The line of the other file is the first that is not in its grammar.
+    Text { kind: TextKind, line: u64 },
+    /// The certificate breaks the rule first.
+    Certificate(CertFault),
+    /// All numbers of the vector are 0.
+    ZeroVector,
+    /// The load of the vector is below the capacity.
+    WeakVector,
+    /// A calculation passes 128 bits at this place.
+    Overflow(Place),
     /// The line of the stream has more than 2,048 bytes.
     Long { line: u64 },
     /// The line of the stream is not in the grammar.
@@ -36,8 +68,10 @@ pub fn status_of(outcome: Outcome) -> u8
     match outcome {
         Outcome::Done => 0,
         Outcome::Words => 1,
-        Outcome::Store => 2,
-        Outcome::Network { .. } => 3,
+        Outcome::Store(_) => 2,
+        Outcome::Network { .. } | Outcome::LongText(_) | Outcome::Text { .. } => 3,
+        Outcome::Certificate(_) | Outcome::ZeroVector | Outcome::WeakVector => 4,
+        Outcome::Overflow(_) => 5,
         Outcome::Long { .. } | Outcome::Grammar { .. } => 7,
         Outcome::LineLimit => 9,
         Outcome::Read => 10,

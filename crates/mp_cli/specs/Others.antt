@@ -1,0 +1,79 @@
+-- What is said of the other file of a command: a certificate, or a vector against the network.
+use Rattle.std.specs.Prelude.{◌≡◌, ◌≤◌, ◌<◌, ◌⊎◌, ◌*◌, ◌++◌, ℕ, ℤ, List, length, map, codes, decimal, unsigned_abs, Option, Ok, Err}
+use Rattle.std.specs.List.{AllByRecursion}
+use Rattle.mp_edge.specs.Outside.{OfFile}
+use Rattle.mp_model.specs.Certificate.{Cert, Certifies, Carries}
+use Rattle.mp_model.specs.Load.{IsVector, ShowsOverload, IsTight, load, capacity}
+use Rattle.mp_model.specs.Network.{Network, entry}
+use Rattle.mp_model.specs.Slack.{IsSlack}
+use Rattle.mp_cert.specs.Checking.{check_outcome}
+use Rattle.mp_cert.specs.FirstBroken.{IsFirstFault}
+use Rattle.mp_cert.specs.TextMeaning.{cert_meaning, vector_meaning}
+use Rattle.mp_cert.specs.declared.types.CertFault.{CertFault}
+use Rattle.mp_cli.specs.declared.command.Command.{Command}
+use Rattle.mp_cli.specs.declared.command.Command.TheVariants.{Run, Show, Check, Refute, Unknown}
+
+-- The files are told as names and bytes, or not at all.
+abbrev pub Files : Type 0
+Files = Option (List (List ℕ × List ℕ))
+
+-- Another file stands behind the network's name.
+abbrev pub HasOther : Command → Type 0
+HasOther Check = Unit {0}
+HasOther Refute = Unit {0}
+HasOther command = ⊥
+
+-- A fact of the certificate holds where the files are not told, or the file of that name is the text of one for the network and the fact is true of it.
+abbrev pub OfCert : Network → Files → List ℕ → (Cert → Type 0) → Type 0
+OfCert net files other P = OfFile files other (λ bytes. (cert : Cert) × (cert_meaning net bytes ≡ Ok cert) × P cert)
+
+-- A fact of the vector holds where the files are not told, or the file of that name is the text of one for the network and the fact is true of its numbers.
+abbrev pub OfVector : Network → Files → List ℕ → (List ℕ → Type 0) → Type 0
+OfVector net files other P = OfFile files other (λ bytes. (p : List ℤ) × (vector_meaning net bytes ≡ Ok p) × P (map unsigned_abs p))
+
+-- This is the line of a certificate that holds, with its slack.
+abbrev pub accepted_line : ℕ → ℕ → List ℕ
+accepted_line num den = (((codes "certificate ok slack " ++ decimal num) ++ codes "/") ++ decimal den) ++ codes "\n"
+
+-- A certificate certifies the network, no calculation of its check passes 128 bits, and its line, with its slack in lowest terms, was written as said.
+pub record IsAccepted (net : Network) (cert : Cert) (IsWritten : List ℕ → Type 0) : Type 0 where
+  pub formed : check_outcome net cert ≡ Ok tt
+  pub certifies : Certifies net cert
+  pub num : ℕ
+  pub den : ℕ
+  pub slack : IsSlack cert num den
+  pub written : IsWritten (accepted_line num den)
+
+-- A certificate breaks the rule, keeps all before it, and no calculation before passes 128 bits.
+pub record IsBroken (net : Network) (broken : CertFault) (cert : Cert) : Type 0 where
+  pub told : check_outcome net cert ≡ Err broken
+  pub first : IsFirstFault net cert broken
+
+-- These are the two sums of a vector, behind a word.
+abbrev pub sums_line : List ℕ → Network → List ℕ → List ℕ
+sums_line word net p = (((word ++ codes " load ") ++ decimal (load net (entry p))) ++ codes " cap ") ++ (decimal (net.per * capacity net (entry p)) ++ codes "\n")
+
+-- A vector shows an overload, so that the network does not carry its rates, and its line was written as said.
+pub record IsOverloading (net : Network) (p : List ℕ) (IsWritten : List ℕ → Type 0) : Type 0 where
+  pub shows : ShowsOverload net p
+  pub none : ¬ Carries net
+  pub written : IsWritten (sums_line (codes "overloaded") net p)
+
+-- A vector is tight, so that no certificate holds, and its line was written as said.
+pub record IsTightening (net : Network) (p : List ℕ) (IsWritten : List ℕ → Type 0) : Type 0 where
+  pub tight : IsTight net p
+  pub none : (cert : Cert) → ¬ Certifies net cert
+  pub written : IsWritten (sums_line (codes "tight") net p)
+
+-- A vector speaks against the network: it shows an overload, or is tight.
+abbrev pub IsRefuting : Network → List ℕ → (List ℕ → Type 0) → Type 0
+IsRefuting net p IsWritten = IsOverloading net p IsWritten ⊎ IsTightening net p IsWritten
+
+-- All numbers of a vector are 0.
+abbrev pub IsZero : List ℕ → Type 0
+IsZero p = AllByRecursion (λ n. n ≡ 0) p
+
+-- The load of a vector is below the rate length times the capacity.
+pub record IsWeak (net : Network) (p : List ℕ) : Type 0 where
+  pub vector : IsVector net p
+  pub below : load net (entry p) < net.per * capacity net (entry p)
