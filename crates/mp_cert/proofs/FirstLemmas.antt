@@ -1,10 +1,10 @@
 -- The first fault of a list of tests.
-use Rattle.std.proofs.Common.{◌≡◌, ℕ, ◌+◌, ◌<◌, ◌≤◌, List, [], ◌∷◌, ◌++◌, length, map, flat_map, get_or, drop, Result, Ok, Err, refl, ap, ap₂, sym, ◌∙◌, arith}
+use Rattle.std.proofs.Common.{◌≡◌, ℕ, ◌+◌, ◌<◌, ◌≤◌, List, [], ◌∷◌, ◌++◌, map, flat_map, get_or, drop, Result, Ok, Err, refl, ap, ap₂, sym, ◌∙◌, arith}
 use Rattle.std.proofs.lemmas.List.{drop_more, drop_all}
 use Rattle.std.proofs.lemmas.List.FromFn.{length-range_with_len, get_or-range_with_len}
 use Rattle.mp_model.specs.Network.{Network, numbers_to, movement_numbers, junction_numbers, stage_numbers, junction_at}
 use Rattle.mp_model.specs.Certificate.{Cert}
-use Rattle.mp_cert.specs.Checking.{mix_rules, rules_of, after, first_of, tried, check_outcome}
+use Rattle.mp_cert.specs.Checking.{mix_rules, after, first_of, tried, check_outcome}
 use Rattle.mp_cert.specs.declared.types.CertFault.{CertFault}
 use Rattle.mp_cert.specs.declared.types.CertFault.TheVariants.{D, E, H, Whole, Part, Mass, Serve, Balance}
 

@@ -1,3 +1,6 @@
 pub mod RunLemmas
 pub mod PlaceLemmas
 pub mod FirstLemmas
+pub mod Gives
+pub mod RuleLaws
+pub mod CheckLaw

@@ -1,5 +1,5 @@
 -- What a fault of a certificate says.
-use Rattle.std.specs.Prelude.{◌≡◌, ◌≢◌, ◌⊎◌, ◌++◌, ◌∷◌, List, Option, None}
+use Rattle.std.specs.Prelude.{◌≡◌, ◌⊎◌, ◌++◌, ◌∷◌, List, None}
 use Rattle.std.specs.List.{AllByRecursion}
 use Rattle.mp_model.specs.Network.{Network}
 use Rattle.mp_model.specs.Certificate.{Cert, DenominatorRule, ExcessRule, RateRule, WholeRule, PartRule, MassRule, ServeRule, BalanceRule}

@@ -3,7 +3,7 @@ use Rattle.std.specs.Prelude.{ℕ, ◌*◌, ℤ, pos, Bool, true, not, int_lt, i
 use Rattle.mp_model.specs.Network.{Network, junction_at, stage_at, stage_numbers, junction_of_movement, from_of, share_of, flow_of, rate_before, into_link, has}
 use Rattle.mp_model.specs.Certificate.{Cert, int_entry, rate_of, mix_at}
 use Rattle.mp_num.specs.Passing.{run}
-use Rattle.mp_cert.specs.Passing.{times, plus, num, added, summed, at_most}
+use Rattle.mp_cert.specs.Passing.{times, plus, num, summed, at_most}
 use Rattle.mp_cert.specs.declared.types.CertFault.{CertFault}
 use Rattle.mp_cert.specs.declared.types.CertFault.TheVariants.{D, E, H, Whole, Part, Mass, Serve, Balance, Overflow}
 

@@ -1,4 +1,3 @@
-use Rattle.std.proofs.Common.{ap, sym, arith}
 use Rattle.mp_cert.proofs.PlaceLemmas.{from_known}
 use Rattle.mp_cert.proofs.places.from.Goals as goal
 

@@ -1,5 +1,5 @@
-use Rattle.std.proofs.Common.{◌≡◌, ◌∙◌, ap, sym, arith}
-use Rattle.mp_model.specs.Network.{junction_of_link, junction_of_movement}
+use Rattle.std.proofs.Common.{◌∙◌, ap}
+use Rattle.mp_model.specs.Network.{junction_of_link}
 use Rattle.mp_cert.proofs.PlaceLemmas.{junction_known, junction_same}
 use Rattle.mp_cert.proofs.places.junction_of.Goals as goal
 

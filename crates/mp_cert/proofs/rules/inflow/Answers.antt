@@ -1,5 +1,5 @@
-use Rattle.std.proofs.Common.{◌≡◌, ◌≤◌, length, arith, get_or}
-use Rattle.mp_model.specs.Network.{to_of, from_of, goes_to, into_link}
+use Rattle.std.proofs.Common.{length, arith}
+use Rattle.mp_model.specs.Network.{to_of, goes_to}
 use Rattle.mp_cert.proofs.PlaceLemmas.{kept_known}
 use Rattle.mp_cert.proofs.rules.inflow.Goals as goal
 

@@ -1,4 +1,4 @@
-use Rattle.std.proofs.Common.{◌≡◌, ◌≤◌, ◌∙◌, length, arith, ap, sym}
+use Rattle.std.proofs.Common.{◌≡◌, length, arith, ap}
 use Rattle.mp_model.specs.Network.{junction_at, junction_numbers}
 use Rattle.mp_model.specs.Certificate.{mix_at}
 use Rattle.mp_cert.specs.Views.{cert_of}
