@@ -4,3 +4,5 @@ pub mod FirstLemmas
 pub mod Gives
 pub mod RuleLaws
 pub mod CheckLaw
+pub mod WeighLaw
+pub mod SlackLemmas

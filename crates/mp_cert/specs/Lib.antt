@@ -3,3 +3,4 @@ pub mod Passing
 pub mod Rules
 pub mod Checking
 pub mod FirstBroken
+pub mod Weighing

@@ -4,7 +4,11 @@
 mod checking;
 mod places;
 mod rules;
+mod slacks;
 mod types;
+mod weighing;
 
 pub use crate::checking::check;
+pub use crate::slacks::slack;
 pub use crate::types::{Against, Cert, CertFault, Mix, Mixes, Overflow, Weighed};
+pub use crate::weighing::weigh;
