@@ -1,1 +1,5 @@
+pub mod TextFaults
+pub mod TextMeaning
+pub mod TextReading
+pub mod Texts
 pub mod Views
