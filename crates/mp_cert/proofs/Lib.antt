@@ -6,3 +6,6 @@ pub mod RuleLaws
 pub mod CheckLaw
 pub mod WeighLaw
 pub mod SlackLemmas
+pub mod FieldLemmas
+pub mod LineLemmas
+pub mod RowLemmas

@@ -1,3 +1,7 @@
+pub mod TextFaults
+pub mod TextMeaning
+pub mod TextReading
+pub mod Texts
 pub mod Views
 pub mod Passing
 pub mod Rules
