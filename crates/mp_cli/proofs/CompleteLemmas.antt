@@ -18,15 +18,27 @@ use Rattle.mp_cli.specs.Complete.{IsGoodFile, IsGoodStream}
 use Rattle.mp_cli.proofs.EndLemmas.{Files}
 
 -- a fact of the file that is there
-of_good : (files : Files) (name : List ℕ) (P : List ℕ → Type 0) (good : IsGoodFile files name) → OfFile files name P → P good.bytes
-of_good files name P good told =
-    let of_all : OfFile (Some good.all) name P = subst (λ (f : Files). OfFile f name P) good.told told in
-    subst (λ (o : Option (List ℕ)). IsSomeAnd o P) good.there of_all
+of_there : (files : Files) (name : List ℕ) (P : List ℕ → Type 0) (file : IsThere files name) → OfFile files name P → P file.bytes
+of_there files name P file told =
+    let of_all : OfFile (Some file.all) name P = subst (λ (f : Files). OfFile f name P) file.told told in
+    subst (λ (o : Option (List ℕ)). IsSomeAnd o P) file.there of_all
 
 net_of_good : (files : Files) (name : List ℕ) (P : Network → Type 0) (good : IsGoodFile files name) → OfNetwork files name P → P good.net
 net_of_good files name P good told =
-    let at = of_good files name (λ bytes. (net : Network) × (file_meaning bytes ≡ Ok net) × P net) good told in
+    let at = of_there files name (λ bytes. (net : Network) × (file_meaning bytes ≡ Ok net) × P net) good.file told in
     let same : at.0 ≡ good.net = (let e = sym at.1 ∙ good.accepted in cc) in
+    subst P same at.2
+
+cert_of_good : (net : Network) (files : Files) (other : List ℕ) (P : Cert → Type 0) (good : IsGoodCert net files other) → OfCert net files other P → P good.cert
+cert_of_good net files other P good told =
+    let at = of_there files other (λ bytes. (cert : Cert) × (cert_meaning net bytes ≡ Ok cert) × P cert) good.file told in
+    let same : at.0 ≡ good.cert = (let e = sym at.1 ∙ good.read in cc) in
+    subst P same at.2
+
+vector_of_good : (net : Network) (files : Files) (other : List ℕ) (P : List ℤ → Type 0) (good : IsGoodVector net files other) → OfVector net files other P → P good.p
+vector_of_good net files other P good told =
+    let at = of_there files other (λ bytes. (p : List ℤ) × (vector_meaning net bytes ≡ Ok p) × P p) good.file told in
+    let same : at.0 ≡ good.p = (let e = sym at.1 ∙ good.read in cc) in
     subst P same at.2
 
 taken_at : (kinds more : List LineKind) (kind : LineKind) → AllByRecursion IsTaken (kinds ++ kind ∷ more) → IsTaken kind
@@ -60,34 +72,54 @@ not_too_many net left rest was now good many =
     absurd (omega arith)
 
 not_refused : (files : Files) (name : List ℕ) (good : IsGoodFile files name) (e : _) → OfFile files name (λ bytes. file_meaning bytes ≡ Err e) → ⊥
-not_refused files name good e told = let is = of_good files name (λ bytes. file_meaning bytes ≡ Err e) good told in let other = sym is ∙ good.accepted in cc
+not_refused files name good e told = let is = of_there files name (λ bytes. file_meaning bytes ≡ Err e) good.file told in let other = sym is ∙ good.accepted in cc
 
 -- all is done, or memory was wanting
 abbrev pub IsDoneUnlessMemory : ℕ → Type 0
 IsDoneUnlessMemory status = (status ≡ 0) ⊎ (status ≡ 12)
 
-pub complete_run : (outcome : Outcome) (files : Files) (name : List ℕ) (left rest was now : Option (List ℕ)) (good : IsGoodFile files name) → IsGoodStream good.net left
-    → (outcome ≡ Store → ⊥) → (outcome ≡ Read → ⊥) → (outcome ≡ Write → ⊥) → Means outcome Run files name left rest was now → IsDoneUnlessMemory (status_of outcome)
-complete_run Done files name left rest was now good stream s r w means = inl refl
-complete_run NoMemory files name left rest was now good stream s r w means = inr refl
-complete_run Store files name left rest was now good stream s r w means = absurd (s refl)
-complete_run Read files name left rest was now good stream s r w means = absurd (r refl)
-complete_run Write files name left rest was now good stream s r w means = absurd (w refl)
-complete_run Words files name left rest was now good stream s r w means = absurd (let other = means.0 in cc)
-complete_run (BadNetwork rule spot) files name left rest was now good stream s r w means = absurd (not_refused files name good (rule, spot) means.0)
-complete_run (Long n) files name left rest was now good stream s r w means =
-    absurd (no_refusal good.net long_line n left rest was now stream (net_of_good files name (λ net. Acts (Long n) Run net left rest was now) good means).1)
-complete_run (Grammar n) files name left rest was now good stream s r w means =
-    absurd (no_refusal good.net bad_line n left rest was now stream (net_of_good files name (λ net. Acts (Grammar n) Run net left rest was now) good means).1)
-complete_run LineLimit files name left rest was now good stream s r w means =
-    absurd (not_too_many good.net left rest was now stream (net_of_good files name (λ net. Acts LineLimit Run net left rest was now) good means).1)
+-- a good stream is not refused
+good_run : (outcome : Outcome) (net : Network) (files : Files) (other : List ℕ) (left rest was now : Option (List ℕ)) → IsGoodStream net left → Acts outcome Run net files other left rest was now
+    → ((file : FileRole) → outcome ≡ Store file → ⊥) → (outcome ≡ Read → ⊥) → (outcome ≡ Write → ⊥) → IsDoneUnlessMemory (status_of outcome)
+good_run Done net files other left rest was now good is s r w = inl refl
+good_run NoMemory net files other left rest was now good is s r w = inr refl
+good_run (Store file) net files other left rest was now good is s r w = absurd (s file refl)
+good_run Read net files other left rest was now good is s r w = absurd (r refl)
+good_run Write net files other left rest was now good is s r w = absurd (w refl)
+good_run (Long n) net files other left rest was now good is s r w = absurd (no_refusal net long_line n left rest was now good is.1)
+good_run (Grammar n) net files other left rest was now good is s r w = absurd (no_refusal net bad_line n left rest was now good is.1)
+good_run LineLimit net files other left rest was now good is s r w = absurd (not_too_many net left rest was now good is.1)
+good_run (LongText Certificate) net files other left rest was now good is s r w = absurd (let no = is.0 in cc)
+good_run (LongText Vector) net files other left rest was now good is s r w = absurd (let no = is.0 in cc)
+good_run (Text Certificate n) net files other left rest was now good is s r w = absurd (let no = is.0 in cc)
+good_run (Text Vector n) net files other left rest was now good is s r w = absurd (let no = is.0 in cc)
+good_run (FailsRule broken) net files other left rest was now good is s r w = absurd (let no = is.0 in cc)
+good_run ZeroVector net files other left rest was now good is s r w = absurd (let no = is.0 in cc)
+good_run WeakVector net files other left rest was now good is s r w = absurd (let no = is.0 in cc)
+good_run (Overflow at.Certificate) net files other left rest was now good is s r w = absurd (let no = is.0.0 in cc)
+good_run (Overflow at.Vector) net files other left rest was now good is s r w = absurd (let no = is.0.0 in cc)
+good_run (Overflow place) net files other left rest was now good is s r w = absurd is.0
+good_run outcome net files other left rest was now good is s r w = absurd is
 
-pub complete_show : (outcome : Outcome) (files : Files) (name : List ℕ) (left rest was now : Option (List ℕ)) → IsGoodFile files name
-    → (outcome ≡ Store → ⊥) → (outcome ≡ Write → ⊥) → Means outcome Show files name left rest was now → IsDoneUnlessMemory (status_of outcome)
-complete_show Done files name left rest was now good s w means = inl refl
-complete_show NoMemory files name left rest was now good s w means = inr refl
-complete_show Store files name left rest was now good s w means = absurd (s refl)
-complete_show Write files name left rest was now good s w means = absurd (w refl)
-complete_show Words files name left rest was now good s w means = absurd (let other = means.0 in cc)
-complete_show (BadNetwork rule spot) files name left rest was now good s w means = absurd (not_refused files name good (rule, spot) means.0)
-complete_show outcome files name left rest was now good s w means = absurd (let other = (net_of_good files name (λ net. Acts outcome Show net left rest was now) good means).0 in cc)
+-- a network can always be shown
+good_show : (outcome : Outcome) (net : Network) (files : Files) (other : List ℕ) (left rest was now : Option (List ℕ)) → Acts outcome Show net files other left rest was now
+    → ((file : FileRole) → outcome ≡ Store file → ⊥) → (outcome ≡ Write → ⊥) → IsDoneUnlessMemory (status_of outcome)
+good_show Done net files other left rest was now is s w = inl refl
+good_show NoMemory net files other left rest was now is s w = inr refl
+good_show (Store file) net files other left rest was now is s w = absurd (s file refl)
+good_show Write net files other left rest was now is s w = absurd (w refl)
+good_show (LongText Certificate) net files other left rest was now is s w = absurd (let no = is.0 in cc)
+good_show (LongText Vector) net files other left rest was now is s w = absurd (let no = is.0 in cc)
+good_show (Text Certificate n) net files other left rest was now is s w = absurd (let no = is.0 in cc)
+good_show (Text Vector n) net files other left rest was now is s w = absurd (let no = is.0 in cc)
+good_show (FailsRule broken) net files other left rest was now is s w = absurd (let no = is.0 in cc)
+good_show ZeroVector net files other left rest was now is s w = absurd (let no = is.0 in cc)
+good_show WeakVector net files other left rest was now is s w = absurd (let no = is.0 in cc)
+good_show (Overflow at.Certificate) net files other left rest was now is s w = absurd (let no = is.0.0 in cc)
+good_show (Overflow at.Vector) net files other left rest was now is s w = absurd (let no = is.0.0 in cc)
+good_show (Overflow place) net files other left rest was now is s w = absurd is.0
+good_show (Long n) net files other left rest was now is s w = absurd (let no = is.0 in cc)
+good_show (Grammar n) net files other left rest was now is s w = absurd (let no = is.0 in cc)
+good_show LineLimit net files other left rest was now is s w = absurd (let no = is.0 in cc)
+good_show Read net files other left rest was now is s w = absurd (let no = is.0 in cc)
+good_show outcome net files other left rest was now is s w = absurd is

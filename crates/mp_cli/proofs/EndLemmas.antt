@@ -1,5 +1,5 @@
 -- How the outcomes of the top call come about.
-use Rattle.std.proofs.Common.{◌≡◌, ◌≤◌, ◌<◌, ℕ, List, length, true, refl, sym, ◌∙◌, ap, subst, arith, Result, Ok, Err, inl, inr}
+use Rattle.std.proofs.Common.{◌≡◌, ◌≤◌, ◌<◌, ℕ, List, length, true, refl, sym, ◌∙◌, ap, subst, arith, Result, Ok, Err, Some, None, inl, inr}
 use Rattle.std.specs.declared.option.Option.{Option}
 use Rattle.std.proofs.lemmas.Bool.Decides.{nat_tests}
 use Rattle.std.proofs.lemmas.List.{append-nil}
@@ -14,8 +14,11 @@ use Rattle.mp_net.specs.declared.fault.Spot.{Spot}
 use Rattle.mp_netfile.specs.Meaning.{file_meaning}
 use Rattle.mp_cli.specs.declared.command.Command.{Command}
 use Rattle.mp_cli.specs.declared.command.Command.TheVariants.{Run, Show}
+use Rattle.mp_cli.specs.declared.outcome.FileRole.{FileRole}
+use Rattle.mp_cli.specs.declared.outcome.FileRole.TheVariants.{Net, Other}
 use Rattle.mp_cli.specs.declared.outcome.Outcome.{Outcome}
 use Rattle.mp_cli.specs.declared.outcome.Outcome.TheVariants.{Done, Words, Store, Network as BadNetwork, Long, Grammar, LineLimit, Read, Write, NoMemory}
+use Rattle.mp_cli.specs.Others.{Files}
 use Rattle.mp_cli.specs.Statuses.{status_of}
 use Rattle.mp_cli.specs.Messages.{message_of}
 use Rattle.mp_cli.specs.Ends.{head, OfNetwork, Acts, Means, Reports}
@@ -23,10 +26,7 @@ use Rattle.mp_cli.specs.Opening.{IsRefusal}
 use Rattle.mp_run.specs.Running.{EndsAs}
 use Rattle.mp_run.specs.declared.run.RunEnd.{RunEnd}
 use Rattle.mp_run.specs.declared.run.RunEnd.TheVariants as end
-use Rattle.mp_cli.specs.Acts.{outcome_of}
-
-abbrev pub Files : Type 0
-Files = Option (List (List ℕ × List ℕ))
+use Rattle.mp_cli.specs.Outcomes.{outcome_of}
 
 -- a long file breaks the first rule
 pub long_file : (bytes : List ℕ) → 1048576 < length bytes → file_meaning bytes ≡ Err (rule.TooLong, record { section = section.Top; number = 0 })
@@ -55,19 +55,35 @@ of_network files name net P opened is =
     (λ bytes o. (o.0, o.1, subst P (sym o.2) is)) opened
 
 -- what a command did on the network that was opened
-pub acts_mean : (outcome : Outcome) (command : Command) (files : Files) (name : List ℕ) (net : Network) (left rest was now : Option (List ℕ)) → OfNetwork files name (λ n. n ≡ net) → Acts outcome command net left rest was now → Means outcome command files name left rest was now
-acts_mean Words command files name net left rest was now opened is = absurd is
-acts_mean Store command files name net left rest was now opened is = absurd is
-acts_mean (BadNetwork r s) command files name net left rest was now opened is = absurd is
-acts_mean NoMemory command files name net left rest was now opened is = is
-acts_mean outcome command files name net left rest was now opened is = of_network files name net (λ n. Acts outcome command n left rest was now) opened is
+pub acts_mean : (outcome : Outcome) (command : Command) (files : Files) (name other : List ℕ) (net : Network) (left rest was now : Option (List ℕ)) → OfNetwork files name (λ n. n ≡ net) → Acts outcome command net files other left rest was now → Means outcome command files name other left rest was now
+acts_mean Words command files name other net left rest was now opened is = absurd is
+acts_mean (Store Net) command files name other net left rest was now opened is = absurd is
+acts_mean (BadNetwork r s) command files name other net left rest was now opened is = absurd is
+acts_mean NoMemory command files name other net left rest was now opened is = is
+acts_mean outcome command files name other net left rest was now opened is = of_network files name net (λ n. Acts outcome command n files other left rest was now) opened is
+
+-- where the files are not told nothing is said of them
+untold : (outcome : Outcome) (command : Command) (files : Files) (name other : List ℕ) (net : Network) (left rest was now : Option (List ℕ)) → Acts outcome command net files other left rest was now → Means outcome command None name other left rest was now
+untold Words command files name other net left rest was now is = absurd is
+untold (Store Net) command files name other net left rest was now is = absurd is
+untold (BadNetwork r s) command files name other net left rest was now is = absurd is
+untold NoMemory command files name other net left rest was now is = is
+untold outcome command files name other net left rest was now is = tt
+
+-- the files stay the same while the network is read
+pub acts_later : (outcome : Outcome) (command : Command) (files later : Files) (name other : List ℕ) (net : Network) (left rest was now : Option (List ℕ)) → Tells files later (λ old new. new ≡ old) → OfNetwork files name (λ n. n ≡ net) → Acts outcome command net later other left rest was now
+    → Means outcome command files name other left rest was now
+acts_later outcome command None later name other net left rest was now same opened is = untold outcome command later name other net left rest was now is
+acts_later outcome command (Some fs) later name other net left rest was now same opened is =
+    let told : later ≡ Some fs = same.1 ∙ ap Some same.2 in
+    acts_mean outcome command (Some fs) name other net left rest was now opened (subst (λ (f : Files). Acts outcome command net f other left rest was now) told is)
 
 -- a network that was not opened leaves all as it was
-pub refusal_means : (outcome : Outcome) (command : Command) (files : Files) (name : List ℕ) (left was : Option (List ℕ)) → IsRefusal outcome files name → Means outcome command files name left left was was
-refusal_means (BadNetwork r s) command files name left was is = (is, record { input = refl; output = refl })
-refusal_means Store command files name left was is = record { input = refl; output = refl }
-refusal_means NoMemory command files name left was is = record { input = refl; output = refl }
-refusal_means outcome command files name left was is = absurd is
+pub refusal_means : (outcome : Outcome) (command : Command) (files : Files) (name other : List ℕ) (left was : Option (List ℕ)) → IsRefusal outcome files name → Means outcome command files name other left left was was
+refusal_means (BadNetwork r s) command files name other left was is = (is, record { input = refl; output = refl })
+refusal_means (Store Net) command files name other left was is = record { input = refl; output = refl }
+refusal_means NoMemory command files name other left was is = record { input = refl; output = refl }
+refusal_means outcome command files name other left was is = absurd is
 
 -- the line of an outcome
 pub reported : {T E : Type 0} (r : Result T E) (name : List ℕ) (outcome : Outcome) (was now : Option (List ℕ)) (before after : ℕ) → Tells was now (Puts r (message_of name outcome)) → HasCause before after r → Reports name outcome was now before after
@@ -86,8 +102,8 @@ pub one_words : (outcome : Outcome) → status_of outcome ≡ 1 → outcome ≡ 
 one_words Words is = refl
 one_words outcome is = absurd (omega arith)
 
-pub two_store : (outcome : Outcome) → status_of outcome ≡ 2 → outcome ≡ Store
-two_store Store is = refl
+pub two_store : (outcome : Outcome) → status_of outcome ≡ 2 → (file : FileRole) × (outcome ≡ Store file)
+two_store (Store file) is = (file, refl)
 two_store outcome is = absurd (omega arith)
 
 pub ten_read : (outcome : Outcome) → status_of outcome ≡ 10 → outcome ≡ Read
@@ -99,10 +115,10 @@ eleven_write Write is = refl
 eleven_write outcome is = absurd (omega arith)
 
 -- the outcome of a run is that of its end
-pub run_ends : (end : RunEnd) (net : Network) (left rest was now : Option (List ℕ)) → EndsAs net head end left rest was now → Acts (outcome_of end) Run net left rest was now
-run_ends end.Done net left rest was now ends = ends
-run_ends end.Write net left rest was now ends = ends
-run_ends end.Read net left rest was now ends = (refl, ends)
-run_ends end.LineLimit net left rest was now ends = (refl, ends)
-run_ends (end.Long n) net left rest was now ends = (refl, ends)
-run_ends (end.Grammar n) net left rest was now ends = (refl, ends)
+pub run_ends : (end : RunEnd) (net : Network) (files : Files) (other : List ℕ) (left rest was now : Option (List ℕ)) → EndsAs net head end left rest was now → Acts (outcome_of end) Run net files other left rest was now
+run_ends end.Done net files other left rest was now ends = ends
+run_ends end.Write net files other left rest was now ends = ends
+run_ends end.Read net files other left rest was now ends = (refl, ends)
+run_ends end.LineLimit net files other left rest was now ends = (refl, ends)
+run_ends (end.Long n) net files other left rest was now ends = (refl, ends)
+run_ends (end.Grammar n) net files other left rest was now ends = (refl, ends)

@@ -1,5 +1,5 @@
 -- When a command must do what was asked.
-use Rattle.std.specs.Prelude.{◌≡◌, ◌≤◌, ◌⊎◌, ◌^◌, ℕ, ℤ, List, [], length, map, unsigned_abs, Option, Some, Ok}
+use Rattle.std.specs.Prelude.{◌≡◌, ◌≤◌, ◌⊎◌, ◌^◌, ℕ, ℤ, List, [], length, Option, Some, Ok}
 use Rattle.mp_edge.specs.Outside.{file_named}
 use Rattle.mp_model.specs.Certificate.{Cert}
 use Rattle.mp_model.specs.Load.{ShowsOverload, IsTight}
@@ -7,12 +7,14 @@ use Rattle.mp_model.specs.Network.{Network}
 use Rattle.mp_model.specs.Stream.{LineKind}
 use Rattle.mp_cert.specs.Checking.{check_outcome}
 use Rattle.mp_cert.specs.TextMeaning.{cert_meaning, vector_meaning}
+use Rattle.mp_cert.specs.Weighing.{weighed}
+use Rattle.mp_cert.specs.declared.types.Weighed.{Weighed}
 use Rattle.mp_netfile.specs.Meaning.{file_meaning}
 use Rattle.mp_run.specs.Running.{StartsWith}
 use Rattle.mp_cli.specs.declared.command.Command.{Command}
 use Rattle.mp_cli.specs.declared.command.Command.TheVariants.{Run, Show, Check, Refute, Unknown}
 use Rattle.mp_cli.specs.Commands.{command_of, name_of, other_of}
-use Rattle.mp_cli.specs.Others.{Files}
+use Rattle.mp_cli.specs.Others.{Files, numbers}
 
 -- The files are told, and one has that name.
 pub record IsThere (files : Files) (name : List ℕ) : Type 0 where
@@ -49,8 +51,9 @@ pub record IsGoodVector (net : Network) (files : Files) (other : List ℕ) : Typ
   pub few : length file.bytes ≤ 1048576
   pub p : List ℤ
   pub read : vector_meaning net file.bytes ≡ Ok p
-  pub formed : weigh_formed net p
-  pub shows : ShowsOverload net (map unsigned_abs p) ⊎ IsTight net (map unsigned_abs p)
+  pub sums : Weighed
+  pub formed : weighed net p ≡ Some sums
+  pub shows : ShowsOverload net (numbers p) ⊎ IsTight net (numbers p)
 
 -- What a command is given beside the network is good.
 abbrev pub GoodFor : Command → Network → Files → List ℕ → Option (List ℕ) → Type 0

@@ -6,6 +6,7 @@ use Rattle.mp_model.specs.Log.{first_line, text_of}
 use Rattle.mp_model.specs.Stream.LineKind.{long_line, bad_line}
 use Rattle.mp_cert.specs.Checking.{check_outcome}
 use Rattle.mp_cert.specs.TextMeaning.{cert_meaning, vector_meaning}
+use Rattle.mp_cert.specs.Weighing.{weighed}
 use Rattle.mp_cert.specs.declared.types.CertFault.TheVariants as fault
 use Rattle.mp_flow.specs.declared.network.Place.{Place}
 use Rattle.mp_flow.specs.declared.network.Place.TheVariants as at
@@ -19,7 +20,7 @@ use Rattle.mp_cli.specs.declared.outcome.TextKind.TheVariants.{Certificate, Vect
 use Rattle.mp_cli.specs.declared.outcome.Outcome.{Outcome}
 use Rattle.mp_cli.specs.declared.outcome.Outcome.TheVariants.{Done, Words, Store, Network as BadNetwork, LongText, Text, Certificate as FailsRule, ZeroVector, WeakVector, Overflow, Long, Grammar, LineLimit, Read, Write, NoMemory}
 use Rattle.mp_cli.specs.Commands.{command_of, name_of, other_of}
-use Rattle.mp_cli.specs.Others.{Files, HasOther, OfCert, OfVector, IsAccepted, IsBroken, IsRefuting, IsZero, IsWeak}
+use Rattle.mp_cli.specs.Others.{Files, HasOther, OfCert, OfVector, IsAccepted, IsBroken, IsRefuting, numbers, IsZero, IsWeak}
 use Rattle.mp_cli.specs.Statuses.{status_of}
 use Rattle.mp_cli.specs.Messages.{message_of}
 
@@ -49,7 +50,7 @@ abbrev pub Did : Command → Network → Files → List ℕ → Option (List ℕ
 Did Run net files other left rest was now = Finished net head left rest was now
 Did Show net files other left rest was now = (rest ≡ left) × Tells was now (Shows net)
 Did Check net files other left rest was now = (rest ≡ left) × OfCert net files other (λ cert. IsAccepted net cert (λ line. Tells was now (λ before after. after ≡ before ++ line)))
-Did Refute net files other left rest was now = (rest ≡ left) × OfVector net files other (λ p. IsRefuting net p (λ line. Tells was now (λ before after. after ≡ before ++ line)))
+Did Refute net files other left rest was now = (rest ≡ left) × OfVector net files other (λ p. IsRefuting net (numbers p) (λ line. Tells was now (λ before after. after ≡ before ++ line)))
 Did Unknown net files other left rest was now = ⊥
 
 -- What a command has done on a network where a write failed.
@@ -57,7 +58,7 @@ abbrev pub WasCutShort : Command → Network → Files → List ℕ → Option (
 WasCutShort Run net files other left rest was now = StopsWriting net head left rest was now
 WasCutShort Show net files other left rest was now = (rest ≡ left) × Tells was now (ShowsPart net)
 WasCutShort Check net files other left rest was now = (rest ≡ left) × OfCert net files other (λ cert. IsAccepted net cert (λ line. Tells was now (GainsPrefix line)))
-WasCutShort Refute net files other left rest was now = (rest ≡ left) × OfVector net files other (λ p. IsRefuting net p (λ line. Tells was now (GainsPrefix line)))
+WasCutShort Refute net files other left rest was now = (rest ≡ left) × OfVector net files other (λ p. IsRefuting net (numbers p) (λ line. Tells was now (GainsPrefix line)))
 WasCutShort Unknown net files other left rest was now = ⊥
 
 -- The text of the other file is that of the command.

@@ -4,5 +4,5 @@ pub mod Messages
 pub mod Ends
 pub mod Others
 pub mod Opening
-pub mod Acts
+pub mod Outcomes
 pub mod Complete

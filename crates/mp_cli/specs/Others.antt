@@ -1,6 +1,6 @@
 -- What is said of the other file of a command: a certificate, or a vector against the network.
-use Rattle.std.specs.Prelude.{◌≡◌, ◌≤◌, ◌<◌, ◌⊎◌, ◌*◌, ◌++◌, ℕ, ℤ, List, length, map, codes, decimal, unsigned_abs, Option, Ok, Err}
-use Rattle.std.specs.List.{AllByRecursion}
+use Rattle.std.specs.Prelude.{◌≡◌, ◌≤◌, ◌<◌, ◌⊎◌, ◌*◌, ◌++◌, ℕ, ℤ, List, length, map, codes, decimal, unsigned_abs, Option, Ok, Err, pos}
+use Rattle.std.specs.List.{All}
 use Rattle.mp_edge.specs.Outside.{OfFile}
 use Rattle.mp_model.specs.Certificate.{Cert, Certifies, Carries}
 use Rattle.mp_model.specs.Load.{IsVector, ShowsOverload, IsTight, load, capacity}
@@ -28,8 +28,12 @@ abbrev pub OfCert : Network → Files → List ℕ → (Cert → Type 0) → Typ
 OfCert net files other P = OfFile files other (λ bytes. (cert : Cert) × (cert_meaning net bytes ≡ Ok cert) × P cert)
 
 -- A fact of the vector holds where the files are not told, or the file of that name is the text of one for the network and the fact is true of its numbers.
-abbrev pub OfVector : Network → Files → List ℕ → (List ℕ → Type 0) → Type 0
-OfVector net files other P = OfFile files other (λ bytes. (p : List ℤ) × (vector_meaning net bytes ≡ Ok p) × P (map unsigned_abs p))
+abbrev pub OfVector : Network → Files → List ℕ → (List ℤ → Type 0) → Type 0
+OfVector net files other P = OfFile files other (λ bytes. (p : List ℤ) × (vector_meaning net bytes ≡ Ok p) × P p)
+
+-- These are the numbers of a vector, none of which is below 0.
+abbrev pub numbers : List ℤ → List ℕ
+numbers p = map unsigned_abs p
 
 -- This is the line of a certificate that holds, with its slack.
 abbrev pub accepted_line : ℕ → ℕ → List ℕ
@@ -49,31 +53,31 @@ pub record IsBroken (net : Network) (broken : CertFault) (cert : Cert) : Type 0 
   pub told : check_outcome net cert ≡ Err broken
   pub first : IsFirstFault net cert broken
 
--- These are the two sums of a vector, behind a word.
-abbrev pub sums_line : List ℕ → Network → List ℕ → List ℕ
-sums_line word net p = (((word ++ codes " load ") ++ decimal (load net (entry p))) ++ codes " cap ") ++ (decimal (net.per * capacity net (entry p)) ++ codes "\n")
+-- This is the line of a word and two sums: the load, and the rate length times the capacity.
+abbrev pub sums_line : List ℕ → ℕ → ℕ → List ℕ
+sums_line word brought served = ((((word ++ codes " load ") ++ decimal brought) ++ codes " cap ") ++ decimal served) ++ codes "\n"
 
 -- A vector shows an overload, so that the network does not carry its rates, and its line was written as said.
 pub record IsOverloading (net : Network) (p : List ℕ) (IsWritten : List ℕ → Type 0) : Type 0 where
   pub shows : ShowsOverload net p
   pub none : ¬ Carries net
-  pub written : IsWritten (sums_line (codes "overloaded") net p)
+  pub written : IsWritten (sums_line (codes "overloaded") (load net (entry p)) (net.per * capacity net (entry p)))
 
 -- A vector is tight, so that no certificate holds, and its line was written as said.
 pub record IsTightening (net : Network) (p : List ℕ) (IsWritten : List ℕ → Type 0) : Type 0 where
   pub tight : IsTight net p
   pub none : (cert : Cert) → ¬ Certifies net cert
-  pub written : IsWritten (sums_line (codes "tight") net p)
+  pub written : IsWritten (sums_line (codes "tight") (load net (entry p)) (net.per * capacity net (entry p)))
 
 -- A vector speaks against the network: it shows an overload, or is tight.
 abbrev pub IsRefuting : Network → List ℕ → (List ℕ → Type 0) → Type 0
 IsRefuting net p IsWritten = IsOverloading net p IsWritten ⊎ IsTightening net p IsWritten
 
 -- All numbers of a vector are 0.
-abbrev pub IsZero : List ℕ → Type 0
-IsZero p = AllByRecursion (λ n. n ≡ 0) p
+abbrev pub IsZero : List ℤ → Type 0
+IsZero p = All (λ n. n ≡ pos 0) p
 
 -- The load of a vector is below the rate length times the capacity.
-pub record IsWeak (net : Network) (p : List ℕ) : Type 0 where
-  pub vector : IsVector net p
-  pub below : load net (entry p) < net.per * capacity net (entry p)
+pub record IsWeak (net : Network) (p : List ℤ) : Type 0 where
+  pub vector : IsVector net (numbers p)
+  pub below : load net (entry (numbers p)) < net.per * capacity net (entry (numbers p))

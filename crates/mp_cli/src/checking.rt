@@ -1,7 +1,9 @@
 //! The commands that check a certificate, or a vector against the network.
-ghost use Rattle.std.specs.Prelude.{◌≡◌, ◌≤◌, ℕ, List, Option};
-ghost use Rattle.mp_edge.specs.Outside.{Rose};
+ghost use Rattle.std.specs.Prelude.{◌≡◌, ◌≤◌, ◌↔◌, ℕ, List, Option, IsTrue, length, unsigned_abs};
+ghost use Rattle.mp_edge.specs.Outside.{Rose, Tells, Puts, HasCause};
+ghost use Rattle.mp_cli.specs.Outcomes.{outcome_of_fault, word_of};
 ghost use Rattle.mp_cli.specs.Ends.{Acts};
+ghost use Rattle.mp_cli.specs.Others.{accepted_line, sums_line, IsZero};
 
 use crate::command::Command;
 use crate::opening::{open_cert, open_vector};
@@ -15,41 +17,63 @@ use mp_num::Frac;
 use mp_text::LineSink;
 use std::alloc::Global;
 
-// Puts the line of a certificate that holds.
+// Puts the line of a certificate that holds, with its slack.
 fn put_accepted<Out: Sink>(out: &mut Out, slack: &Frac) -> Result<(), Failed>
+    ensures bytes { Tells (Out.held out.old) (Out.held out.new) (Puts result (accepted_line (unsigned_abs slack.now.num) (unsigned_abs slack.now.den))) }
+    ensures cause { HasCause (Out.faults out.old) (Out.faults out.new) result }
 {
     let mut line = LineSink::new();
     push_text(&mut line, b"certificate ok slack ");
-    push_number(&mut line, slack.num());
+    push_number(&mut line, slack.num().unsigned_abs());
     push_text(&mut line, b"/");
-    push_number(&mut line, slack.den());
+    push_number(&mut line, slack.den().unsigned_abs());
     push_text(&mut line, b"\n");
     out.put(line.bytes())
 }
 
-// Puts the line of a vector that speaks against the network.
-fn put_sums<Out: Sink>(out: &mut Out, sums: Weighed) -> Result<(), Failed>
+// Puts the line of a word and the two sums of a vector.
+fn put_sums<Out: Sink>(out: &mut Out, word: &[u8], sums: Weighed) -> Result<(), Failed>
+    requires { length word.now ≤ 100 }
+    ensures bytes { Tells (Out.held out.old) (Out.held out.new) (Puts result (sums_line word.now (unsigned_abs sums.load) (unsigned_abs sums.served))) }
+    ensures cause { HasCause (Out.faults out.old) (Out.faults out.new) result }
 {
     let mut line = LineSink::new();
-    if sums.load > sums.served {
-        push_text(&mut line, b"overloaded load ");
-    } else {
-        push_text(&mut line, b"tight load ");
-    }
-    push_number(&mut line, sums.load);
+    push_text(&mut line, word);
+    push_text(&mut line, b" load ");
+    push_number(&mut line, sums.load.unsigned_abs());
     push_text(&mut line, b" cap ");
-    push_number(&mut line, sums.served);
+    push_number(&mut line, sums.served.unsigned_abs());
     push_text(&mut line, b"\n");
     out.put(line.bytes())
+}
+
+// Puts what the two sums of a vector show.
+fn put_verdict<Out: Sink>(out: &mut Out, sums: Weighed) -> Result<(), Failed>
+    ensures bytes { Tells (Out.held out.old) (Out.held out.new) (Puts result (sums_line (word_of sums) (unsigned_abs sums.load) (unsigned_abs sums.served))) }
+    ensures cause { HasCause (Out.faults out.old) (Out.faults out.new) result }
+{
+    if sums.load > sums.served {
+        put_sums(out, b"overloaded", sums)
+    } else {
+        put_sums(out, b"tight", sums)
+    }
 }
 
 // The outcome of a certificate that is not accepted.
 fn outcome_of_fault(fault: CertFault) -> Outcome
+    ensures { result ≡ outcome_of_fault fault }
 {
     match fault {
         CertFault::Overflow => Outcome::Overflow(Place::Certificate),
-        rule => Outcome::Certificate(rule),
+        _ => Outcome::Certificate(fault),
     }
+}
+
+// All numbers are 0.
+fn is_zero(p: &[i128]) -> bool
+    ensures { IsTrue result ↔ IsZero p.now }
+{
+    p.iter().all(|n| *n == 0)
 }
 
 /// Checks the certificate in the other file, and writes its slack.
@@ -106,14 +130,8 @@ pub fn refute<St: Store, Out: Sink>(
     if sums.load < sums.served {
         return Outcome::WeakVector;
     }
-    match put_sums(out, sums) {
+    match put_verdict(out, sums) {
         Ok(()) => Outcome::Done,
         Err(Failed) => Outcome::Write,
     }
-}
-
-// All numbers are 0.
-fn is_zero(p: &[i128]) -> bool
-{
-    p.iter().all(|n| *n == 0)
 }

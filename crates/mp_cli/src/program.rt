@@ -3,8 +3,9 @@ ghost use Rattle.std.specs.Prelude.{◌≡◌, ◌≤◌, ◌⊎◌, ◌↔◌, 
 ghost use Rattle.mp_edge.specs.Outside.{Rose};
 ghost use Rattle.mp_cli.specs.Commands.{command_of, name_of, other_of};
 ghost use Rattle.mp_cli.specs.Ends.{Acts, Means, Does, named_as, IsEnd};
-ghost use Rattle.mp_cli.specs.Acts.{outcome_of};
+ghost use Rattle.mp_cli.specs.Outcomes.{outcome_of};
 ghost use Rattle.mp_cli.specs.Complete.{IsGood};
+ghost use Rattle.mp_cli.specs.Others.{Files};
 
 use crate::checking::{check, refute};
 use crate::command::{Command, command_of, name_of, other_of};
@@ -34,7 +35,7 @@ fn outcome_of(end: RunEnd) -> Outcome
 
 // Writes the log of the stream's run. All memory is taken before the first byte is put.
 fn run<In: Source, Out: Sink>(alloc: Global, net: &Net, input: &mut In, out: &mut Out) -> Outcome
-    ensures acts { Acts result Command.Run net.now (In.left input.old) (In.left input.new) (Out.held out.old) (Out.held out.new) }
+    ensures acts { (files : Files) (other : List ℕ) → Acts result Command.Run net.now files other (In.left input.old) (In.left input.new) (Out.held out.old) (Out.held out.new) }
     ensures in_later { In.faults input.old ≤ In.faults input.new }
     ensures out_later { Out.faults out.old ≤ Out.faults out.new }
     ensures read { result ≡ Outcome.Read → Rose (In.faults input.old) (In.faults input.new) }
@@ -51,7 +52,7 @@ fn run<In: Source, Out: Sink>(alloc: Global, net: &Net, input: &mut In, out: &mu
 
 // Writes the network, as a file.
 fn show<Out: Sink>(alloc: Global, net: &Net, out: &mut Out) -> Outcome
-    ensures acts { (left : Option (List ℕ)) → Acts result Command.Show net.now left left (Out.held out.old) (Out.held out.new) }
+    ensures acts { (files : Files) (other : List ℕ) (left : Option (List ℕ)) → Acts result Command.Show net.now files other left left (Out.held out.old) (Out.held out.new) }
     ensures out_later { Out.faults out.old ≤ Out.faults out.new }
     ensures write { result ≡ Outcome.Write → Rose (Out.faults out.old) (Out.faults out.new) }
 {
@@ -91,7 +92,8 @@ fn obey<St: Store, In: Source, Out: Sink>(
         Command::Run => run(alloc, &net, input, out),
         Command::Check => check(alloc, &net, other, store, out),
         Command::Refute => refute(alloc, &net, other, store, out),
-        Command::Show | Command::Unknown => show(alloc, &net, out),
+        Command::Show => show(alloc, &net, out),
+        Command::Unknown => Outcome::Words,
     }
 }
 
