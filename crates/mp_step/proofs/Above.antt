@@ -1,5 +1,5 @@
 -- The least link above its bucket.
-use Rattle.std.proofs.Common.{◌≡◌, ◌==◌, ◌≤◌, ◌<◌, ℕ, zero, suc, ◌+◌, ◌-◌, ◌*◌, ◌||◌, Bool, true, false, cond, List, [], ◌∷◌, length, Option, None, Some, nat_lt, arith, refl, sym, ◌∙◌, ap, ap₂, get_or, zero-le, filter, not, ◌⊎◌, inl, inr, ⊎_elim, map, replicate}
+use Rattle.std.proofs.Common.{◌≡◌, ◌==◌, ◌≤◌, ◌<◌, ℕ, zero, suc, ◌+◌, ◌-◌, ◌*◌, ◌||◌, Bool, true, false, cond, List, [], ◌∷◌, length, Option, None, Some, nat_lt, arith, refl, sym, ◌∙◌, ap, ap₂, get_or, zero-le, subst, filter, not, ◌⊎◌, inl, inr, ⊎_elim, map, replicate}
 use Rattle.std.specs.Prelude.{find, nat_le}
 use Rattle.std.specs.List.{AllByRecursion, range_with_len}
 use Rattle.std.proofs.lemmas.Bool.{cases_lt, false≢true, true≢false, or_left, lt-ltb, le-leb}
@@ -98,3 +98,16 @@ pub level_is : (net : Network) (levels counts : List ℕ) (i n came : ℕ) (fill
 level_is net levels counts i n came fill is at arrived =
     let back : n ≡ i + 1 - 1 = omega (arith, at) in
     ap (λ (f : Fill). next_level f.per f.rate (get_or levels n 0) came) is ∙ ap₂ (λ n a. next_level net.per (link_at net (i + 1)).rate (get_or levels n 0) a) back arrived
+
+pub within_length : (fills : List Fill) (levels : List ℕ) → AreWithin fills levels → length fills ≡ length levels
+within_length [] [] h = refl
+within_length [] (l ∷ ls) h = absurd h
+within_length (f ∷ fs) [] h = absurd h
+within_length (f ∷ fs) (l ∷ ls) h = ap suc (within_length fs ls h.1)
+
+pub within_at : (fills : List Fill) (levels : List ℕ) → AreWithin fills levels → (i : ℕ) → i < length levels → (fill : Fill) → fill ≡ get_or fills i fill → get_or levels i 0 ≤ fill.per * fill.burst
+within_at [] [] h i lt fill is = absurd (omega arith)
+within_at [] (l ∷ ls) h i lt fill is = absurd h
+within_at (f ∷ fs) [] h i lt fill is = absurd h
+within_at (f ∷ fs) (l ∷ ls) h zero lt fill is = subst (λ (f : Fill). l ≤ f.per * f.burst) (sym is) h.0
+within_at (f ∷ fs) (l ∷ ls) h (suc i) lt fill is = within_at fs ls h.1 i (omega arith) fill is

@@ -1,9 +1,9 @@
 // The bucket levels after a period.
-ghost use Rattle.std.specs.Prelude.{◌≡◌, ◌≤◌, ◌<◌, ◌*◌, ◌^◌, All, IsNone, IfSome, IfOk, OnOk, [], ◌∷◌, ◌++◌, length, map};
+ghost use Rattle.std.specs.Prelude.{◌≡◌, ◌≤◌, ◌<◌, ◌+◌, ◌*◌, ◌^◌, All, IsNone, IfSome, IfOk, OnOk, [], ◌∷◌, ◌++◌, length, map};
 ghost use Rattle.std.specs.List.{AllByRecursion};
-ghost use Rattle.mp_model.specs.Network.{link_numbers, link_at, entry};
+ghost use Rattle.mp_model.specs.Network.{Network, link_numbers, link_at, entry};
 ghost use Rattle.mp_model.specs.Arrivals.{HasCounts, next_level};
-ghost use Rattle.mp_step.specs.BucketLevels.{buckets_of, level_then, first_above};
+ghost use Rattle.mp_step.specs.BucketLevels.{buckets_of, level_then, first_above, AreWithin, IsRoom};
 
 use crate::moving::arrivals_on;
 use mp_feed::{Above, Bucket, NoMemory};
@@ -50,6 +50,15 @@ pub fn levels_after(
         next[at] = level;
     }
     None
+}
+
+/// The greatest count of arrivals that the bucket at this place takes.
+pub fn room_at(buckets: &[Bucket], levels: &[u64], at: usize) -> u64
+    requires within { AreWithin buckets.now levels.now }
+    requires known { at < length buckets.now }
+    ensures { (net : Network) → buckets.now ≡ buckets_of net → IsRoom net (entry levels.now) (at + 1) result }
+{
+    buckets[at].at_level(levels[at]).room()
 }
 
 fn add_bucket(buckets: &mut Vec<Bucket>, bucket: Bucket) -> Result<(), AllocError>

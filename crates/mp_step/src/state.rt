@@ -10,7 +10,7 @@ ghost use Rattle.mp_step.specs.BucketLevels.{first_above, IsRoom};
 ghost use Rattle.mp_step.specs.Standing.{Stands, IsOn, closed, shares_in, splits_of};
 ghost use Rattle.mp_step.specs.Taken.{HasTaken};
 
-use crate::levels::{levels_after, make_buckets};
+use crate::levels::{levels_after, make_buckets, room_at};
 use crate::moving::move_all;
 use crate::passing::{departed, serve_all};
 use mp_feed::{Bucket, NoMemory, Splitter};
@@ -138,8 +138,7 @@ impl State {
         requires { (1 ≤ l) × (l ≤ length self.now.levels) }
         ensures { (net : Network) → IsOn net self.now → IsRoom net (entry self.now.levels) l result }
     {
-        let at = usize::from(l) - 1;
-        self.buckets[at].at_level(self.levels[at]).room()
+        room_at(&self.buckets, &self.levels, usize::from(l) - 1)
     }
 
     /// One period in which the junctions show these stages, one per junction, and these many vehicles
