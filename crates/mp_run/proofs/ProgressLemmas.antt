@@ -306,7 +306,6 @@ with_head net head (Grammar n) whole left was mid now put ends = record {
   read = ends.read;
   written = behind_head net head ends.kinds was mid now put ends.written;
 }
-
 with_head net head (Above n p l) whole left was mid now put ends = record {
   kinds = ends.kinds;
   counts = ends.counts;

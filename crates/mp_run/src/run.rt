@@ -32,9 +32,13 @@ pub enum RunEnd {
     /// The stream has more than 2^48 lines.
     LineLimit,
     /// The line has more than 2,048 bytes.
-    Long { line: u64 },
+    Long {
+        line: u64,
+    },
     /// The line is not in the grammar.
-    Grammar { line: u64 },
+    Grammar {
+        line: u64,
+    },
     /// The line gives the arrivals of this period, the first in which some link does not keep to its
     /// bucket; the link is the least one.
     Above {
