@@ -10,6 +10,7 @@ use Rattle.mp_model.specs.Stream.LineKind.{long_line, bad_line}
 use Rattle.mp_netfile.specs.Meaning.{file_meaning}
 use Rattle.mp_run.specs.Running.{IsTaken, StartsWith, Finished, RefusedAt, RefusedAbove, HasTooMany}
 use Rattle.mp_run.proofs.AboveLemmas.{not_excessive, not_finished, not_refused_at, not_many}
+use Rattle.mp_cli.specs.declared.command.Command.{Command}
 use Rattle.mp_cli.specs.declared.command.Command.TheVariants.{Run, Show}
 use Rattle.mp_cli.specs.declared.outcome.Outcome.{Outcome}
 use Rattle.mp_cli.specs.declared.outcome.Outcome.TheVariants.{Done, Words, Store, Network as BadNetwork, Long, Grammar, Above, LineLimit, Read, Write, NoMemory}
@@ -92,7 +93,7 @@ complete_run LineLimit files name left rest was now good stream s r w means =
 abbrev pub IsAboveUnlessMemory : ℕ → Type 0
 IsAboveUnlessMemory status = (status ≡ 8) ⊎ (status ≡ 12)
 
-pub complete_above : (outcome : Outcome) (files : Files) (name : List ℕ) (left rest was now : Option (List ℕ)) (good : IsGoodFile files name) → IsExcessiveStream good.net left
+complete_above : (outcome : Outcome) (files : Files) (name : List ℕ) (left rest was now : Option (List ℕ)) (good : IsGoodFile files name) → IsExcessiveStream good.net left
     → (outcome ≡ Store → ⊥) → (outcome ≡ Read → ⊥) → (outcome ≡ Write → ⊥) → Means outcome Run files name left rest was now → IsAboveUnlessMemory (status_of outcome)
 complete_above (Above n p l) files name left rest was now good stream s r w means = inl refl
 complete_above NoMemory files name left rest was now good stream s r w means = inr refl
@@ -111,6 +112,13 @@ complete_above (Grammar n) files name left rest was now good stream s r w means 
     (net_of_good files name (λ net. RefusedAt net head bad_line n left rest was now) good means.1))
 complete_above LineLimit files name left rest was now good stream s r w means =
     absurd (not_many good.net stream.text stream.line stream.period stream.link stream.above left rest was now stream.told head stream.few (net_of_good files name (λ net. HasTooMany net head left rest was now) good means.1))
+
+-- the same, of the words as they were handed in
+pub named_above : (outcome : Outcome) (command : Command) (files : Files) (shown name : List ℕ) (left rest was now : Option (List ℕ)) → command ≡ Run → shown ≡ name → (good : IsGoodFile files name) → IsExcessiveStream good.net left
+    → (outcome ≡ Store → ⊥) → (outcome ≡ Read → ⊥) → (outcome ≡ Write → ⊥) → Means outcome command files shown left rest was now → IsAboveUnlessMemory (status_of outcome)
+named_above outcome command files shown name left rest was now run same good stream s r w means =
+    let ran = subst (λ (k : Command). Means outcome k files shown left rest was now) run means in
+    complete_above outcome files name left rest was now good stream s r w (subst (λ (n : List ℕ). Means outcome Run files n left rest was now) same ran)
 
 pub complete_show : (outcome : Outcome) (files : Files) (name : List ℕ) (left rest was now : Option (List ℕ)) → IsGoodFile files name
     → (outcome ≡ Store → ⊥) → (outcome ≡ Write → ⊥) → Means outcome Show files name left rest was now → IsDoneUnlessMemory (status_of outcome)
