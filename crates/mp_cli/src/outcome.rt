@@ -14,11 +14,18 @@ pub enum Outcome {
     /// The store met a fault.
     Store,
     /// The network file breaks the rule first, there.
-    Network { rule: NetRule, spot: Spot },
+    Network {
+        rule: NetRule,
+        spot: Spot,
+    },
     /// The line of the stream has more than 2,048 bytes.
-    Long { line: u64 },
+    Long {
+        line: u64,
+    },
     /// The line of the stream is not in the grammar.
-    Grammar { line: u64 },
+    Grammar {
+        line: u64,
+    },
     /// The line of the stream gives the arrivals of this period, the first in which some link does not
     /// keep to its bucket; the link is the least one.
     Above {

@@ -301,13 +301,7 @@ fn holds_arrivals_to_buckets(rt: HostRuntime) -> Result<(), Fail> {
         (run, b"3,0\n", 8, FIRST, "line 1 above period 1 link 1\n"),
         (run, b"3,3", 8, FIRST, "line 1 above period 1 link 1\n"),
         (run, b"0,3\n", 8, FIRST, "line 1 above period 1 link 2\n"),
-        (
-            run,
-            b"2,0\n1,0\n",
-            8,
-            two,
-            "line 2 above period 2 link 1\n",
-        ),
+        (run, b"2,0\n1,0\n", 8, two, "line 2 above period 2 link 1\n"),
         (
             run,
             b"# c\n2,0\n\n1,0\n1\n",
