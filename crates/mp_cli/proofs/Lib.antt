@@ -1,2 +1,3 @@
 pub mod CompleteLemmas
 pub mod EndLemmas
+pub mod VectorLemmas

@@ -1,16 +1,17 @@
 -- When a command must do what was asked.
 use Rattle.std.specs.Prelude.{◌≡◌, ◌≤◌, ◌⊎◌, ◌^◌, ℕ, ℤ, List, [], length, Option, Some, Ok}
 use Rattle.mp_edge.specs.Outside.{file_named}
+use Rattle.mp_model.specs.Arrivals.{IsPermitted}
 use Rattle.mp_model.specs.Certificate.{Cert}
 use Rattle.mp_model.specs.Load.{ShowsOverload, IsTight}
 use Rattle.mp_model.specs.Network.{Network}
-use Rattle.mp_model.specs.Stream.{LineKind}
+use Rattle.mp_model.specs.Stream.{LineKind, arrivals_of_kinds}
 use Rattle.mp_cert.specs.Checking.{check_outcome}
 use Rattle.mp_cert.specs.TextMeaning.{cert_meaning, vector_meaning}
 use Rattle.mp_cert.specs.Weighing.{weighed}
 use Rattle.mp_cert.specs.declared.types.Weighed.{Weighed}
 use Rattle.mp_netfile.specs.Meaning.{file_meaning}
-use Rattle.mp_run.specs.Running.{StartsWith}
+use Rattle.mp_run.specs.Running.{StartsWith, IsAboveAt}
 use Rattle.mp_cli.specs.declared.command.Command.{Command}
 use Rattle.mp_cli.specs.declared.command.Command.TheVariants.{Run, Show, Check, Refute, Unknown}
 use Rattle.mp_cli.specs.Commands.{command_of, name_of, other_of}
@@ -29,13 +30,24 @@ pub record IsGoodFile (files : Files) (name : List ℕ) : Type 0 where
   pub net : Network
   pub accepted : file_meaning file.bytes ≡ Ok net
 
--- The input is told, and has at most 2^48 lines, each of them skipped or of arrivals.
+-- The input is told, has at most 2^48 lines, each of them skipped or of arrivals, and these arrivals are permitted.
 pub record IsGoodStream (net : Network) (left : Option (List ℕ)) : Type 0 where
   pub text : List ℕ
   pub told : left ≡ Some text
   pub kinds : List LineKind
   pub lines : StartsWith net text kinds []
   pub few : length kinds ≤ 2 ^ 48
+  pub permitted : IsPermitted net (arrivals_of_kinds kinds)
+
+-- The input is told, and is above a bucket at one of its first 2^48 lines.
+pub record IsExcessiveStream (net : Network) (left : Option (List ℕ)) : Type 0 where
+  pub text : List ℕ
+  pub told : left ≡ Some text
+  pub line : ℕ
+  pub few : line ≤ 2 ^ 48
+  pub period : ℕ
+  pub link : ℕ
+  pub above : IsAboveAt net text line period link
 
 -- The other file has at most 1,048,576 bytes, is the text of a certificate, and the check of it ends well.
 pub record IsGoodCert (net : Network) (files : Files) (other : List ℕ) : Type 0 where
@@ -67,3 +79,9 @@ GoodFor Unknown net files other left = ⊥
 pub record IsGood (words : List (List ℕ)) (files : Files) (left : Option (List ℕ)) : Type 0 where
   pub file : IsGoodFile files (name_of words)
   pub given : GoodFor (command_of words) file.net files (other_of words) left
+
+-- The words ask for a run, the network file is one of a network, and the stream is above a bucket.
+pub record IsExcessive (words : List (List ℕ)) (files : Files) (left : Option (List ℕ)) : Type 0 where
+  pub run : command_of words ≡ Run
+  pub file : IsGoodFile files (name_of words)
+  pub stream : IsExcessiveStream file.net left

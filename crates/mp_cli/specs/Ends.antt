@@ -11,14 +11,14 @@ use Rattle.mp_cert.specs.declared.types.CertFault.TheVariants as fault
 use Rattle.mp_flow.specs.declared.network.Place.{Place}
 use Rattle.mp_flow.specs.declared.network.Place.TheVariants as at
 use Rattle.mp_netfile.specs.Meaning.{text_meaning, file_meaning}
-use Rattle.mp_run.specs.Running.{Finished, RefusedAt, HasTooMany, StopsReading, StopsWriting}
+use Rattle.mp_run.specs.Running.{Finished, RefusedAt, RefusedAbove, HasTooMany, StopsReading, StopsWriting}
 use Rattle.mp_cli.specs.declared.command.Command.{Command}
 use Rattle.mp_cli.specs.declared.command.Command.TheVariants.{Run, Show, Check, Refute, Unknown}
 use Rattle.mp_cli.specs.declared.outcome.FileRole.TheVariants.{Net, Other}
 use Rattle.mp_cli.specs.declared.outcome.TextKind.{TextKind}
 use Rattle.mp_cli.specs.declared.outcome.TextKind.TheVariants.{Certificate, Vector}
 use Rattle.mp_cli.specs.declared.outcome.Outcome.{Outcome}
-use Rattle.mp_cli.specs.declared.outcome.Outcome.TheVariants.{Done, Words, Store, Network as BadNetwork, LongText, Text, Certificate as FailsRule, ZeroVector, WeakVector, Overflow, Long, Grammar, LineLimit, Read, Write, NoMemory}
+use Rattle.mp_cli.specs.declared.outcome.Outcome.TheVariants.{Done, Words, Store, Network as BadNetwork, LongText, Text, Certificate as FailsRule, ZeroVector, WeakVector, Overflow, Long, Grammar, Above, LineLimit, Read, Write, NoMemory}
 use Rattle.mp_cli.specs.Commands.{command_of, name_of, other_of}
 use Rattle.mp_cli.specs.Others.{Files, HasOther, OfCert, OfVector, IsAccepted, IsBroken, IsRefuting, numbers, IsZero, IsWeak}
 use Rattle.mp_cli.specs.Statuses.{status_of}
@@ -91,6 +91,7 @@ Acts WeakVector command net files other left rest was now = (command ≡ Refute)
 Acts (Overflow place) command net files other left rest was now = Overflows place command net files other × IsUntouched left rest was now
 Acts (Long n) command net files other left rest was now = (command ≡ Run) × RefusedAt net head long_line n left rest was now
 Acts (Grammar n) command net files other left rest was now = (command ≡ Run) × RefusedAt net head bad_line n left rest was now
+Acts (Above n p l) command net files other left rest was now = (command ≡ Run) × RefusedAbove net head n p l left rest was now
 Acts LineLimit command net files other left rest was now = (command ≡ Run) × HasTooMany net head left rest was now
 Acts Read command net files other left rest was now = (command ≡ Run) × StopsReading net head left rest was now
 Acts outcome command net files other left rest was now = ⊥

@@ -87,6 +87,7 @@ words_of end.WeakVector = codes "vector fails weak"
 words_of (end.Overflow place) = codes "overflow " ++ place_text place
 words_of (end.Long n) = line_text n ++ codes " long"
 words_of (end.Grammar n) = line_text n ++ codes " grammar"
+words_of (end.Above n p l) = (((line_text n ++ codes " above period ") ++ decimal p) ++ codes " link ") ++ decimal l
 words_of end.LineLimit = codes "lines"
 words_of end.Read = codes "read"
 words_of end.Write = codes "write"

@@ -7,7 +7,7 @@ use Rattle.mp_flow.specs.declared.network.Place.TheVariants as at
 use Rattle.mp_run.specs.declared.run.RunEnd.{RunEnd}
 use Rattle.mp_run.specs.declared.run.RunEnd.TheVariants as end
 use Rattle.mp_cli.specs.declared.outcome.Outcome.{Outcome}
-use Rattle.mp_cli.specs.declared.outcome.Outcome.TheVariants.{Done, Certificate, Overflow, Long, Grammar, LineLimit, Read, Write}
+use Rattle.mp_cli.specs.declared.outcome.Outcome.TheVariants.{Done, Certificate, Overflow, Long, Grammar, Above, LineLimit, Read, Write}
 
 -- This is the outcome of a run's end.
 abbrev pub outcome_of : RunEnd → Outcome
@@ -17,6 +17,7 @@ outcome_of end.Write = Write
 outcome_of end.LineLimit = LineLimit
 outcome_of (end.Long n) = Long n
 outcome_of (end.Grammar n) = Grammar n
+outcome_of (end.Above n p l) = Above n p l
 
 -- This is the outcome of a certificate that is not accepted.
 abbrev pub outcome_of_fault : CertFault → Outcome

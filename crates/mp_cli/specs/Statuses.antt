@@ -1,7 +1,7 @@
 -- The status of each outcome.
 use Rattle.std.specs.Prelude.{ℕ}
 use Rattle.mp_cli.specs.declared.outcome.Outcome.{Outcome}
-use Rattle.mp_cli.specs.declared.outcome.Outcome.TheVariants.{Done, Words, Store, Network, LongText, Text, Certificate, ZeroVector, WeakVector, Overflow, Long, Grammar, LineLimit, Read, Write, NoMemory}
+use Rattle.mp_cli.specs.declared.outcome.Outcome.TheVariants.{Done, Words, Store, Network, LongText, Text, Certificate, ZeroVector, WeakVector, Overflow, Long, Grammar, Above, LineLimit, Read, Write, NoMemory}
 
 -- This is the status of an outcome.
 abbrev pub status_of : Outcome → ℕ
@@ -17,6 +17,7 @@ status_of WeakVector = 4
 status_of (Overflow place) = 5
 status_of (Long n) = 7
 status_of (Grammar n) = 7
+status_of (Above n p l) = 8
 status_of LineLimit = 9
 status_of Read = 10
 status_of Write = 11

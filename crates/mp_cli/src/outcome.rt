@@ -4,7 +4,7 @@ ghost use Rattle.mp_cli.specs.Statuses.{status_of};
 
 use mp_cert::CertFault;
 use mp_flow::Place;
-use mp_net::{NetRule, Spot};
+use mp_net::{LinkNo, NetRule, Spot};
 
 /// One of the files that the words name.
 #[derive(Clone, Copy, Debug, PartialEq, Eq)]
@@ -51,6 +51,13 @@ pub enum Outcome {
     Long { line: u64 },
     /// The line of the stream is not in the grammar.
     Grammar { line: u64 },
+    /// The line of the stream gives the arrivals of this period, the first in which some link does not
+    /// keep to its bucket; the link is the least one.
+    Above {
+        line: u64,
+        period: u64,
+        link: LinkNo,
+    },
     /// The stream has more than 2^48 lines.
     LineLimit,
     /// The input met a fault.
@@ -73,6 +80,7 @@ pub fn status_of(outcome: Outcome) -> u8
         Outcome::Certificate(_) | Outcome::ZeroVector | Outcome::WeakVector => 4,
         Outcome::Overflow(_) => 5,
         Outcome::Long { .. } | Outcome::Grammar { .. } => 7,
+        Outcome::Above { .. } => 8,
         Outcome::LineLimit => 9,
         Outcome::Read => 10,
         Outcome::Write => 11,

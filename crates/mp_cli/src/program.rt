@@ -4,7 +4,7 @@ ghost use Rattle.mp_edge.specs.Outside.{Rose};
 ghost use Rattle.mp_cli.specs.Commands.{command_of, name_of, other_of};
 ghost use Rattle.mp_cli.specs.Ends.{Acts, Means, Does, named_as, IsEnd};
 ghost use Rattle.mp_cli.specs.Outcomes.{outcome_of};
-ghost use Rattle.mp_cli.specs.Complete.{IsGood};
+ghost use Rattle.mp_cli.specs.Complete.{IsGood, IsExcessive};
 ghost use Rattle.mp_cli.specs.Others.{Files};
 
 use crate::checking::{check, refute};
@@ -30,6 +30,7 @@ fn outcome_of(end: RunEnd) -> Outcome
         RunEnd::LineLimit => Outcome::LineLimit,
         RunEnd::Long { line } => Outcome::Long { line },
         RunEnd::Grammar { line } => Outcome::Grammar { line },
+        RunEnd::Above { line, period, link } => Outcome::Above { line, period, link },
     }
 }
 
@@ -116,8 +117,9 @@ fn named_in<'a>(outcome: Outcome, name: &'a str, other: &'a str) -> &'a str
 /// for the first rule that the network file breaks and for the first line of the other file that is not
 /// in its grammar, 4 for the first rule that a certificate breaks and for a vector that shows nothing, 5
 /// for a calculation that passes 128 bits, 7 for the first line of the stream that is too long or not in
-/// the grammar, 9 for more than 2^48 lines, 10 for a fault of the input, 11 for one of the output, and
-/// 12 for want of memory, which comes before the first byte is put.
+/// the grammar, 8 for the first period of the stream in which some link does not keep to its bucket, 9
+/// for more than 2^48 lines, 10 for a fault of the input, 11 for one of the output, and 12 for want of
+/// memory, which comes before the first byte is put.
 pub fn top<St: Store, In: Source, Out: Sink, Er: Sink>(
     alloc: Global,
     words: &[String],
@@ -143,6 +145,11 @@ pub fn top<St: Store, In: Source, Out: Sink, Er: Sink>(
     ensures complete { IsGood (map string_bytes words.now) (St.files store.old) (In.left input.old) →
         ¬ Rose (St.faults store.old) (St.faults store.new) → ¬ Rose (In.faults input.old) (In.faults input.new) → ¬ Rose (Out.faults out.old) (Out.faults out.new) →
         (result ≡ 0) ⊎ (result ≡ 12) }
+
+    // Where nothing is wrong but that the stream is above a bucket, it is refused as that.
+    ensures excessive { IsExcessive (map string_bytes words.now) (St.files store.old) (In.left input.old) →
+        ¬ Rose (St.faults store.old) (St.faults store.new) → ¬ Rose (In.faults input.old) (In.faults input.new) → ¬ Rose (Out.faults out.old) (Out.faults out.new) →
+        (result ≡ 8) ⊎ (result ≡ 12) }
 {
     let name = name_of(words);
     let other = other_of(words);
