@@ -1,3 +1,6 @@
 pub mod FieldLemmas
+pub mod HeadLemmas
 pub mod LineLemmas
+pub mod MeaningLemmas
+pub mod MixLemmas
 pub mod RowLemmas

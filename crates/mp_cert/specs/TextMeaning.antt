@@ -80,10 +80,14 @@ rows_of n (form ∷ forms) [] = Err n
 rows_of n [] (line ∷ lines) = cond (is_passed_over line) (rows_of (n + 1) [] lines) (Err n)
 rows_of n (form ∷ forms) (line ∷ lines) = cond (is_passed_over line) (rows_of (n + 1) (form ∷ forms) lines) (row_before n (row_of form line) (rows_of (n + 1) forms lines))
 
--- The lines of mixes, from junction j on, have the junction's number, a whole, and a part per stage.
+-- The line of a mix has the number of its junction, a whole, and a part per stage.
+abbrev pub mix_form : ℕ → Junction → Form
+mix_form j junction = record { words = mix_words j; count = 1 + length junction.stages }
+
+-- These are the forms of the lines of mixes, from junction j on.
 abbrev pub mix_forms : ℕ → List Junction → List Form
 mix_forms j [] = []
-mix_forms j (junction ∷ junctions) = record { words = mix_words j; count = 1 + length junction.stages } ∷ mix_forms (j + 1) junctions
+mix_forms j (junction ∷ junctions) = mix_form j junction ∷ mix_forms (j + 1) junctions
 
 -- The lines of a certificate are its first line, one number behind `d`, one behind `e`, one per movement behind `h`, and the lines of its mixes.
 abbrev pub cert_forms : Network → List Form
