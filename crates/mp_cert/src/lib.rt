@@ -1,11 +1,14 @@
 //! Certificates of a network's slack, and vectors against a network: their check, their sums and their texts.
 #![tactic(auto)]
 
+mod print;
 mod read;
 mod read_lines;
 mod read_numbers;
 mod text_fault;
 mod types;
 
+pub use crate::print::{print_against, print_cert};
+pub use crate::read::{read_against, read_cert};
 pub use crate::text_fault::TextFault;
 pub use crate::types::{Against, Cert, CertFault, Mix, Mixes, Overflow, Weighed};
