@@ -100,7 +100,7 @@ read_more read rest after x whole so_far number =
 pub field_fails : (read : List ℤ) (rest : List ℕ) (count : ℕ) (whole : Option (List ℤ)) → prefixed read (spaced_numbers rest) ≡ whole → spaced_numbers rest ≡ None → of_count count whole ≡ None
 field_fails read rest count whole so_far none = ap (of_count count) (sym so_far ∙ ap (prefixed read) none)
 
-of_count_same : (n : ℕ) (ns : List ℤ) → length ns ≡ n → of_count n (Some ns) ≡ Some ns
+pub of_count_same : (n : ℕ) (ns : List ℤ) → length ns ≡ n → of_count n (Some ns) ≡ Some ns
 of_count_same n ns same = let yes : (length ns == n) ≡ true = grind (arith, nat_tests) in rw yes refl
 
 of_count_other : (n : ℕ) (ns : List ℤ) → length ns ≢ n → of_count n (Some ns) ≡ None

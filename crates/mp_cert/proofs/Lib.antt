@@ -1,3 +1,4 @@
+pub mod DecimalLemmas
 pub mod FieldLemmas
 pub mod HeadLemmas
 pub mod LineLemmas
@@ -5,3 +6,5 @@ pub mod MeaningLemmas
 pub mod MixLemmas
 pub mod PutLemmas
 pub mod RowLemmas
+pub mod TextLengthLemmas
+pub mod WrittenLemmas

@@ -1,4 +1,5 @@
 pub mod TextFaults
+pub mod TextLaws
 pub mod TextMeaning
 pub mod TextReading
 pub mod Texts

@@ -6,9 +6,11 @@ mod read;
 mod read_lines;
 mod read_numbers;
 mod text_fault;
+mod text_laws;
 mod types;
 
 pub use crate::print::{print_against, print_cert};
 pub use crate::read::{read_against, read_cert};
 pub use crate::text_fault::TextFault;
+pub use crate::text_laws::{cert_length_law, cert_text_law, vector_length_law, vector_text_law};
 pub use crate::types::{Against, Cert, CertFault, Mix, Mixes, Overflow, Weighed};
