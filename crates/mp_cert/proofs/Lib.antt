@@ -6,3 +6,4 @@ pub mod RuleLaws
 pub mod CheckLaw
 pub mod WeighLaw
 pub mod SlackLemmas
+pub mod LengthLemmas
