@@ -3,32 +3,36 @@ use Rattle.std.proofs.Common.{◌≡◌, ◌<◌, ◌≤◌, ℕ, suc, zero, ◌
 use Rattle.std.specs.Prelude.{codes}
 use Rattle.std.specs.List.{AllByRecursion}
 use Rattle.std.specs.Option.{option_and_then}
+use Rattle.std.proofs.lemmas.List.Elements.{All-from_recursion, All-weaker}
 use Rattle.mp_laws.proofs.Lists.{each_in, in_numbers}
 use Rattle.mp_model.specs.Certificate.{Cert, Mix, HasLengths, mix_at, no_mix, int_entry}
 use Rattle.mp_model.specs.Network.{Network, Junction, junction_at, no_junction, numbers_to, has}
 use Rattle.mp_model.specs.Stream.{lines_of}
 use Rattle.mp_cert.specs.TextMeaning.{Form, row_of, behind, spaced_numbers, of_count, is_passed_over, made, row_before, rows_of, mix_form, mix_forms, mix_of_row, cert_forms, cert_of_rows, cert_meaning, vector_forms, vector_meaning, row_at, AreNatural, IsNatural}
-use Rattle.mp_cert.proofs.FieldLemmas.{read_count, read_natural}
+use Rattle.mp_cert.proofs.FieldLemmas.{read_count, read_natural, EachNatural}
 
 same_Ok : {X : Type 0} (x y : X) → ◌≡◌ {A = Result X ℕ} (Ok x) (Ok y) → x ≡ y
 same_Ok x y is = cc
+
+all_natural : (ns : List ℤ) → EachNatural ns → AreNatural ns
+all_natural ns each = All-from_recursion (λ n. pos 0 ≤ℤ n) ns each
 
 -- rows of some forms have their counts, and no number below 0
 abbrev RowsFit : List Form → List (List ℤ) → Type 0
 RowsFit [] [] = Unit {0}
 RowsFit [] (row ∷ rows) = ⊥
 RowsFit (form ∷ forms) [] = ⊥
-RowsFit (form ∷ forms) (row ∷ rows) = (length row ≡ form.count) × AreNatural row × RowsFit forms rows
+RowsFit (form ∷ forms) (row ∷ rows) = (length row ≡ form.count) × EachNatural row × RowsFit forms rows
 
-none_natural : (count : ℕ) (row : List ℤ) → of_count count None ≡ Some row → AreNatural row
+none_natural : (count : ℕ) (row : List ℤ) → of_count count None ≡ Some row → EachNatural row
 none_natural count row is = absurd (cc)
 
-behind_natural : (count : ℕ) (o : Option (List ℕ)) (row : List ℤ) → of_count count (option_and_then spaced_numbers o) ≡ Some row → AreNatural row
+behind_natural : (count : ℕ) (o : Option (List ℕ)) (row : List ℤ) → of_count count (option_and_then spaced_numbers o) ≡ Some row → EachNatural row
 behind_natural count None row is = none_natural count row is
 behind_natural count (Some bytes) row is = read_natural count bytes row is
 
 row_fits : (n : ℕ) (form : Form) (forms : List Form) (o : Option (List ℤ)) (rest : Result (List (List ℤ)) ℕ) (rows : List (List ℤ))
-    → ((row : List ℤ) → o ≡ Some row → (length row ≡ form.count) × AreNatural row) → ((others : List (List ℤ)) → rest ≡ Ok others → RowsFit forms others)
+    → ((row : List ℤ) → o ≡ Some row → (length row ≡ form.count) × EachNatural row) → ((others : List (List ℤ)) → rest ≡ Ok others → RowsFit forms others)
     → row_before n o rest ≡ Ok rows → RowsFit (form ∷ forms) rows
 row_fits n form forms None rest rows here later is = absurd (cc)
 row_fits n form forms (Some row) (Err m) rows here later is = absurd (cc)
@@ -59,10 +63,10 @@ abbrev MixesFit : List Junction → List Mix → Type 0
 MixesFit [] [] = Unit {0}
 MixesFit [] (mix ∷ mixes) = ⊥
 MixesFit (junction ∷ junctions) [] = ⊥
-MixesFit (junction ∷ junctions) (mix ∷ mixes) = (length mix.parts ≡ length junction.stages) × ((pos 0 ≤ℤ mix.whole) × AreNatural mix.parts) × MixesFit junctions mixes
+MixesFit (junction ∷ junctions) (mix ∷ mixes) = (length mix.parts ≡ length junction.stages) × ((pos 0 ≤ℤ mix.whole) × EachNatural mix.parts) × MixesFit junctions mixes
 
-mix_fits : (j : ℕ) (junction : Junction) (row : List ℤ) → length row ≡ 1 + length junction.stages → AreNatural row
-    → (length (mix_of_row row).parts ≡ length junction.stages) × ((pos 0 ≤ℤ (mix_of_row row).whole) × AreNatural (mix_of_row row).parts)
+mix_fits : (j : ℕ) (junction : Junction) (row : List ℤ) → length row ≡ 1 + length junction.stages → EachNatural row
+    → (length (mix_of_row row).parts ≡ length junction.stages) × ((pos 0 ≤ℤ (mix_of_row row).whole) × EachNatural (mix_of_row row).parts)
 mix_fits j junction [] size natural = absurd (omega arith)
 mix_fits j junction (whole ∷ parts) size natural = (omega arith, natural)
 
@@ -87,13 +91,13 @@ mixes_parts (junction ∷ junctions) [] i fit within = absurd fit
 mixes_parts (junction ∷ junctions) (mix ∷ mixes) zero fit within = fit.0
 mixes_parts (junction ∷ junctions) (mix ∷ mixes) (suc i) fit within = mixes_parts junctions mixes i fit.2 (omega arith)
 
-mixes_natural : (junctions : List Junction) (mixes : List Mix) → MixesFit junctions mixes → AllByRecursion (λ mix. (pos 0 ≤ℤ mix.whole) × AreNatural mix.parts) mixes
+mixes_natural : (junctions : List Junction) (mixes : List Mix) → MixesFit junctions mixes → AllByRecursion (λ mix. (pos 0 ≤ℤ mix.whole) × EachNatural mix.parts) mixes
 mixes_natural [] [] fit = tt
 mixes_natural [] (mix ∷ mixes) fit = absurd fit
 mixes_natural (junction ∷ junctions) [] fit = absurd fit
 mixes_natural (junction ∷ junctions) (mix ∷ mixes) fit = (fit.1, mixes_natural junctions mixes fit.2)
 
-one_natural : (row : List ℤ) → length row ≡ 1 → AreNatural row → pos 0 ≤ℤ int_entry row 1
+one_natural : (row : List ℤ) → length row ≡ 1 → EachNatural row → pos 0 ≤ℤ int_entry row 1
 one_natural [] size natural = absurd (omega arith)
 one_natural (x ∷ row) size natural = natural.0
 
@@ -113,8 +117,9 @@ all_rows net (first ∷ d ∷ e ∷ h ∷ others) fit =
       record {
         denominator = one_natural d fit.2.0 fit.2.1;
         excess = one_natural e fit.2.2.0 fit.2.2.1;
-        rates = fit.2.2.2.1;
-        mixes = mixes_natural net.junctions (map mix_of_row others) mixes;
+        rates = all_natural h fit.2.2.2.1;
+        mixes = All-weaker (λ mix. (pos 0 ≤ℤ mix.whole) × EachNatural mix.parts) (λ mix. (pos 0 ≤ℤ mix.whole) × AreNatural mix.parts) (λ mix fact. (fact.0, all_natural mix.parts fact.1)) (map mix_of_row others)
+            (All-from_recursion (λ mix. (pos 0 ≤ℤ mix.whole) × EachNatural mix.parts) (map mix_of_row others) (mixes_natural net.junctions (map mix_of_row others) mixes));
       },
     )
 
@@ -129,7 +134,7 @@ cert_fits net bytes cert is =
     let P : Cert → Type 0 = λ c. HasLengths net c × IsNatural c in
     subst P rows.2 (all_rows net rows.0 (rows_fit (lines_of bytes) 1 (cert_forms net) rows.0 rows.1))
 
-vector_rows : (net : Network) (rows : List (List ℤ)) → RowsFit (vector_forms net) rows → (length (row_at rows 2) ≡ length net.movements) × AreNatural (row_at rows 2)
+vector_rows : (net : Network) (rows : List (List ℤ)) → RowsFit (vector_forms net) rows → (length (row_at rows 2) ≡ length net.movements) × EachNatural (row_at rows 2)
 vector_rows net [] fit = absurd fit
 vector_rows net (first ∷ []) fit = absurd fit.2
 vector_rows net (first ∷ p ∷ others) fit = (fit.2.0, fit.2.1)
@@ -139,4 +144,5 @@ pub vector_fits : (net : Network) (bytes : List ℕ) (p : List ℤ) → vector_m
 vector_fits net bytes p is =
     let rows = made_Ok (λ rs. row_at rs 2) (rows_of 1 (vector_forms net) (lines_of bytes)) p is in
     let P : List ℤ → Type 0 = λ q. (length q ≡ length net.movements) × AreNatural q in
-    subst P rows.2 (vector_rows net rows.0 (rows_fit (lines_of bytes) 1 (vector_forms net) rows.0 rows.1))
+    let fact = vector_rows net rows.0 (rows_fit (lines_of bytes) 1 (vector_forms net) rows.0 rows.1) in
+    subst P rows.2 (fact.0, all_natural (row_at rows.0 2) fact.1)

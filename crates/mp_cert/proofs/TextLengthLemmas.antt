@@ -44,7 +44,7 @@ mixes_length j (junction ∷ junctions) (mix ∷ mixes) few size parts small all
 pub cert_length : (net : Network) (cert : Cert) → IsInRange net → HasLengths net cert → IsWritable cert → length (cert_text cert) < 100000
 cert_length net cert range lengths writable =
     let mixes = mixes_length 1 net.junctions cert.mixes (omega (arith, range.junctions.1, lengths.mixes)) lengths.mixes
-        (parts_at net cert lengths) range.stages writable.mixes in
+    (parts_at net cert lengths) range.stages writable.mixes in
     let h_text = text_of (mix_lines 1 cert.mixes) in
     let e_text = (line_with (codes "h") cert.h ++ 10 ∷ []) ++ h_text in
     let d_text = (line_with (codes "e") (cert.e ∷ []) ++ 10 ∷ []) ++ e_text in

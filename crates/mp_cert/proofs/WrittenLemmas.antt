@@ -163,7 +163,7 @@ cert_read_back net cert few lengths writable =
     (refl, (line_inner (codes "d") (cert.d ∷ []) refl d, (line_inner (codes "e") (cert.e ∷ []) refl e, (line_inner (codes "h") cert.h refl writable.rates, mixes_inner 1 cert.mixes (omega arith) writable.mixes)))) in
     let rows : Written (cert_forms net) (cert_lines cert) ([] ∷ (cert.d ∷ []) ∷ (cert.e ∷ []) ∷ cert.h ∷ map mix_numbers cert.mixes) =
     let mixes = mixes_written 1 net.junctions cert.mixes lengths.mixes
-        (parts_at net cert lengths) writable.mixes in
+    (parts_at net cert lengths) writable.mixes in
     let h_line = line_read (codes "h") (length net.movements) cert.h lengths.rates writable.rates in
     let e_line = line_read (codes "e") 1 (cert.e ∷ []) refl e in
     let d_line = line_read (codes "d") 1 (cert.d ∷ []) refl d in

@@ -1,6 +1,6 @@
 -- What bytes mean as a certificate or a vector: a value, or the number of the first line that is not in the grammar.
 use Rattle.std.specs.Prelude.{◌==◌, ℕ, ◌+◌, ◌-◌, ℤ, pos, ◌≤ℤ◌, Bool, true, cond, List, [], ◌∷◌, length, map, drop, codes, Option, Some, None, option_and_then, Result, Ok, Err, slice_index_or}
-use Rattle.std.specs.List.{slice_split, AllByRecursion}
+use Rattle.std.specs.List.{slice_split, All}
 use Rattle.mp_model.specs.Certificate.{Cert, Mix, int_entry}
 use Rattle.mp_model.specs.Network.{Network, Junction}
 use Rattle.mp_model.specs.Stream.{lines_of}
@@ -49,14 +49,14 @@ row_of form line = of_count form.count (option_and_then spaced_numbers (behind f
 
 -- Numbers are natural where none of them is below 0.
 abbrev pub AreNatural : List ℤ → Type 0
-AreNatural ns = AllByRecursion (λ n. pos 0 ≤ℤ n) ns
+AreNatural ns = All (λ n. pos 0 ≤ℤ n) ns
 
 -- A certificate is natural where none of its numbers is below 0.
 pub record IsNatural (cert : Cert) : Type 0 where
   pub denominator : pos 0 ≤ℤ cert.d
   pub excess : pos 0 ≤ℤ cert.e
   pub rates : AreNatural cert.h
-  pub mixes : AllByRecursion (λ mix. (pos 0 ≤ℤ mix.whole) × AreNatural mix.parts) cert.mixes
+  pub mixes : All (λ mix. (pos 0 ≤ℤ mix.whole) × AreNatural mix.parts) cert.mixes
 
 -- A line is passed over where it is empty or begins with `#`.
 abbrev pub is_passed_over : List ℕ → Bool

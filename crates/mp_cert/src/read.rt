@@ -36,11 +36,7 @@ fn read_mix(
 }
 
 // The mixes of all junctions, a line each.
-fn read_mixes(
-    alloc: Global,
-    lines: &mut TextLines<'_>,
-    net: &Net,
-) -> Result<Vec<Mix>, TextFault>
+fn read_mixes(alloc: Global, lines: &mut TextLines<'_>, net: &Net) -> Result<Vec<Mix>, TextFault>
     requires { HasRoom lines.old.number lines.old.rest.now }
     ensures ok { IfOk result (λ mixes. ReadsRows (mix_forms 1 net.now.junctions) (map mix_row mixes.items) [] lines.old.number lines.old.rest.now lines.new.number lines.new.rest.now) }
     ensures fault { IfErr result (IsFaultOf (rows_ahead lines.old.number lines.old.rest.now (mix_forms 1 net.now.junctions))) }
@@ -56,11 +52,7 @@ fn read_mixes(
 }
 
 // The number of the next line, which has these words and one number.
-fn read_number(
-    alloc: Global,
-    lines: &mut TextLines<'_>,
-    words: &[u8],
-) -> Result<i128, TextFault>
+fn read_number(alloc: Global, lines: &mut TextLines<'_>, words: &[u8]) -> Result<i128, TextFault>
     requires { HasRoom lines.old.number lines.old.rest.now }
     ensures ok { IfOk result (λ n. ReadsRow (record { words = words.now; count = 1 }) (n ∷ []) lines.old.number lines.old.rest.now lines.new.number lines.new.rest.now) }
     ensures fault { IfErr result (RefusesAhead (record { words = words.now; count = 1 }) lines.old.number lines.old.rest.now) }
