@@ -6,7 +6,7 @@ use Rattle.std.specs.Str.Parse.{digits_value}
 use Rattle.mp_model.specs.Stream.{is_digit, is_plain}
 use Rattle.std.proofs.lemmas.Int.{ints}
 use Rattle.std.proofs.lemmas.Option.{same_Some}
-use Rattle.std.specs.List.{list_all, slice_split, onto_first, position, position_or_len}
+use Rattle.std.specs.List.{AllByRecursion, list_all, slice_split, onto_first, position, position_or_len}
 use Rattle.std.specs.Option.{option_map, option_and_then, MatchOption, IfSome, IfNone}
 use denote.Bor.{Bor}
 use Rattle.std.proofs.lemmas.List.{append_assoc, append-nil, drop_more, take_all}
@@ -15,7 +15,7 @@ use Rattle.std.proofs.lemmas.List.Sums.{fails_before_first, passes_at_first, pre
 use Rattle.std.proofs.lemmas.Bool.Decides.{nat_tests}
 use Rattle.std.proofs.Math.ListN.{drop_of_length-le}
 use Rattle.mp_text.specs.Bigs.{big_of}
-use Rattle.mp_cert.specs.TextMeaning.{onto, behind, numbers_of, fields_numbers, spaced_numbers, of_count, row_of, AreNatural}
+use Rattle.mp_cert.specs.TextMeaning.{onto, behind, numbers_of, fields_numbers, spaced_numbers, of_count, row_of}
 
 abbrev is_space : ℕ → Bool
 is_space b = b == 32
@@ -100,7 +100,7 @@ read_more read rest after x whole so_far number =
 pub field_fails : (read : List ℤ) (rest : List ℕ) (count : ℕ) (whole : Option (List ℤ)) → prefixed read (spaced_numbers rest) ≡ whole → spaced_numbers rest ≡ None → of_count count whole ≡ None
 field_fails read rest count whole so_far none = ap (of_count count) (sym so_far ∙ ap (prefixed read) none)
 
-of_count_same : (n : ℕ) (ns : List ℤ) → length ns ≡ n → of_count n (Some ns) ≡ Some ns
+pub of_count_same : (n : ℕ) (ns : List ℤ) → length ns ≡ n → of_count n (Some ns) ≡ Some ns
 of_count_same n ns same = let yes : (length ns == n) ≡ true = grind (arith, nat_tests) in rw yes refl
 
 of_count_other : (n : ℕ) (ns : List ℤ) → length ns ≢ n → of_count n (Some ns) ≡ None
@@ -146,6 +146,10 @@ none_behind words line (Some x) cut = tt
 pub row_behind : (words line rest : List ℕ) (count : ℕ) → behind words line ≡ Some rest → row_of (record { words = words; count = count }) line ≡ of_count count (spaced_numbers rest)
 row_behind words line rest count is = ap (λ o. of_count count (option_and_then spaced_numbers o)) is
 
+-- none of the numbers is below 0, one after the other
+abbrev pub EachNatural : List ℤ → Type 0
+EachNatural ns = AllByRecursion (λ n. pos 0 ≤ℤ n) ns
+
 -- so many numbers were read, none of them below 0
 counted : (v : Bool) (n : ℕ) (ns row : List ℤ) → (length ns == n) ≡ v → cond v (Some ns) None ≡ Some row → (ns ≡ row) × (length row ≡ n)
 counted true n ns row is read =
@@ -162,26 +166,26 @@ big_natural : (v : Bool) (n : ℕ) (x : ℤ) → cond v (Some (pos n)) None ≡ 
 big_natural true n x is = rw (← same_Some (pos n) x is) (omega (arith, ints))
 big_natural false n x is = absurd (cc)
 
-onto_natural : (o : Option ℤ) (rest : Option (List ℤ)) (ns : List ℤ) → ((x : ℤ) → o ≡ Some x → pos 0 ≤ℤ x) → ((ms : List ℤ) → rest ≡ Some ms → AreNatural ms) → onto o rest ≡ Some ns → AreNatural ns
+onto_natural : (o : Option ℤ) (rest : Option (List ℤ)) (ns : List ℤ) → ((x : ℤ) → o ≡ Some x → pos 0 ≤ℤ x) → ((ms : List ℤ) → rest ≡ Some ms → EachNatural ms) → onto o rest ≡ Some ns → EachNatural ns
 onto_natural None rest ns one more is = absurd (cc)
 onto_natural (Some x) None ns one more is = absurd (cc)
-onto_natural (Some x) (Some ms) ns one more is = let P : List ℤ → Type 0 = AreNatural in subst P (same_Some (x ∷ ms) ns is) (one x refl, more ms refl)
+onto_natural (Some x) (Some ms) ns one more is = let P : List ℤ → Type 0 = EachNatural in subst P (same_Some (x ∷ ms) ns is) (one x refl, more ms refl)
 
-numbers_natural : (fields : List (List ℕ)) (ns : List ℤ) → numbers_of fields ≡ Some ns → AreNatural ns
-numbers_natural [] ns is = let P : List ℤ → Type 0 = AreNatural in subst P (same_Some [] ns is) tt
+numbers_natural : (fields : List (List ℕ)) (ns : List ℤ) → numbers_of fields ≡ Some ns → EachNatural ns
+numbers_natural [] ns is = let P : List ℤ → Type 0 = EachNatural in subst P (same_Some [] ns is) tt
 numbers_natural (field ∷ fields) ns is =
     onto_natural (big_of field) (numbers_of fields) ns
     (big_natural (is_plain field && list_all is_digit field && nat_le (digits_value 10 field) (2 ^ 127 - 1)) (digits_value 10 field))
     (numbers_natural fields) is
 
-spaced_natural : (fields : List (List ℕ)) (ns : List ℤ) → fields_numbers fields ≡ Some ns → AreNatural ns
+spaced_natural : (fields : List (List ℕ)) (ns : List ℤ) → fields_numbers fields ≡ Some ns → EachNatural ns
 spaced_natural [] ns is = absurd (cc)
 spaced_natural ([] ∷ fields) ns is = numbers_natural fields ns is
 spaced_natural ((b ∷ bs) ∷ fields) ns is = absurd (cc)
 
-natural_of_count : (count : ℕ) (o : Option (List ℤ)) (row : List ℤ) → ((ns : List ℤ) → o ≡ Some ns → AreNatural ns) → of_count count o ≡ Some row → AreNatural row
+natural_of_count : (count : ℕ) (o : Option (List ℤ)) (row : List ℤ) → ((ns : List ℤ) → o ≡ Some ns → EachNatural ns) → of_count count o ≡ Some row → EachNatural row
 natural_of_count count None row all read = absurd (cc)
 natural_of_count count (Some ns) row all read = all row (ap (λ xs. Some xs) (counted (length ns == count) count ns row refl read).0)
 
-pub read_natural : (count : ℕ) (bytes : List ℕ) (row : List ℤ) → of_count count (spaced_numbers bytes) ≡ Some row → AreNatural row
+pub read_natural : (count : ℕ) (bytes : List ℕ) (row : List ℤ) → of_count count (spaced_numbers bytes) ≡ Some row → EachNatural row
 read_natural count bytes row read = natural_of_count count (spaced_numbers bytes) row (spaced_natural (slice_split is_space bytes)) read

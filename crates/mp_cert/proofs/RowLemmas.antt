@@ -1,11 +1,12 @@
 -- The rows of the lines ahead, where the first line is known.
-use Rattle.std.proofs.Common.{◌≡◌, ◌≢◌, ◌<◌, ◌≤◌, ℕ, ◌+◌, ◌-◌, List, [], ◌∷◌, ◌++◌, Bool, true, false, cond, ℤ, refl, sym, ◌∙◌, ap, subst, Some, None, arith, Result, Ok, Err}
+use Rattle.std.proofs.Common.{◌≡◌, ◌≢◌, ◌<◌, ◌≤◌, ℕ, ◌+◌, ◌-◌, List, [], ◌∷◌, ◌++◌, Bool, true, false, cond, ℤ, pos, length, get_or, refl, sym, ◌∙◌, ap, subst, Some, None, arith, Result, Ok, Err}
+use Rattle.std.proofs.lemmas.List.{append_assoc, append-nil}
 use Rattle.mp_model.specs.Stream.{lines_of}
 use Rattle.mp_cert.specs.declared.text_fault.TextFault.{TextFault}
 use Rattle.mp_cert.specs.declared.text_fault.TextFault.TheVariants.{Line, NoMemory}
 use Rattle.mp_cert.specs.TextFaults.{IsFaultOf, RefusesLine}
 use Rattle.mp_cert.specs.TextMeaning.{Form, row_of, is_passed_over, made, row_before, rows_of}
-use Rattle.mp_cert.specs.TextReading.{rows_ahead, SameAhead, StandsFirst, NoneStands, ReadsRow, RefusesAhead}
+use Rattle.mp_cert.specs.TextReading.{rows_ahead, SameAhead, StandsFirst, NoneStands, ReadsRow, ReadsRows, RefusesAhead}
 
 -- a line that is passed over
 passed : (n : ℕ) (forms : List Form) (line : List ℕ) (lines : List (List ℕ)) → is_passed_over line ≡ true → rows_of n forms (line ∷ lines) ≡ rows_of (n + 1) forms lines
@@ -56,3 +57,50 @@ further line n m text rest first = first.ahead [] ∙ ap (λ b. cond b (rows_of 
 
 pub no_further : (n m : ℕ) (text : List ℕ) → NoneStands n text m → rows_ahead n text [] ≡ Ok []
 no_further n m text none = none []
+
+made_none : {X : Type 0} (r : Result (List X) ℕ) → made (λ others. [] ++ others) r ≡ r
+made_none (Ok x) = refl
+made_none (Err n) = refl
+
+made_then : (rows : List (List ℤ)) (row : List ℤ) (r : Result (List (List ℤ)) ℕ) → made (λ others. rows ++ others) (made (λ others. row ∷ others) r) ≡ made (λ others. (rows ++ row ∷ []) ++ others) r
+made_then rows row (Ok x) = ap (λ xs. Ok xs) (sym (append_assoc rows (row ∷ []) x))
+made_then rows row (Err n) = refl
+
+made_behind : (rows more : List (List ℤ)) (r : Result (List (List ℤ)) ℕ) → made (λ others. rows ++ others) (made (λ others. more ++ others) r) ≡ made (λ others. (rows ++ more) ++ others) r
+made_behind rows more (Ok x) = ap (λ xs. Ok xs) (sym (append_assoc rows more x))
+made_behind rows more (Err n) = refl
+
+-- nothing was read yet
+pub rows_start : (all : List Form) (n : ℕ) (text : List ℕ) → ReadsRows all [] all n text n text
+rows_start all n text = sym (made_none (rows_ahead n text all))
+
+-- one row more
+pub rows_more : (all : List Form) (rows : List (List ℤ)) (form : Form) (forms : List Form) (row : List ℤ) (n m k : ℕ) (text mid rest : List ℕ)
+    → ReadsRows all rows (form ∷ forms) n text m mid → ReadsRow form row m mid k rest → ReadsRows all (rows ++ row ∷ []) forms n text k rest
+rows_more all rows form forms row n m k text mid rest so_far reads = so_far ∙ ap (made (λ others. rows ++ others)) (reads forms) ∙ made_then rows row (rows_ahead k rest forms)
+
+-- the rows of the last forms
+pub rows_last : (all : List Form) (rows more : List (List ℤ)) (forms : List Form) (n m k : ℕ) (text mid rest : List ℕ)
+    → ReadsRows all rows forms n text m mid → ReadsRows forms more [] m mid k rest → ReadsRows all (rows ++ more) [] n text k rest
+rows_last all rows more forms n m k text mid rest so_far reads = so_far ∙ ap (made (λ others. rows ++ others)) reads ∙ made_behind rows more (rows_ahead k rest [])
+
+-- a fault of the lines ahead is one of the whole
+pub rows_fail : (all : List Form) (rows : List (List ℤ)) (forms : List Form) (fault : TextFault) (n m : ℕ) (text mid : List ℕ)
+    → ReadsRows all rows forms n text m mid → IsFaultOf (rows_ahead m mid forms) fault → IsFaultOf (rows_ahead n text all) fault
+rows_fail all rows forms (Line i) n m text mid so_far is = so_far ∙ ap (made (λ others. rows ++ others)) is
+rows_fail all rows forms NoMemory n m text mid so_far is = tt
+
+-- all lines were read
+pub rows_end : (all : List Form) (rows : List (List ℤ)) (n m : ℕ) (text mid : List ℕ) → ReadsRows all rows [] n text m mid → rows_ahead m mid [] ≡ Ok [] → rows_ahead n text all ≡ Ok rows
+rows_end all rows n m text mid so_far is = so_far ∙ ap (made (λ others. rows ++ others)) is ∙ ap (λ xs. Ok xs) (append-nil rows)
+
+-- the value of a fault is a fault
+pub fault_made : {X Y : Type 0} (f : X → Y) (r : Result X ℕ) (fault : TextFault) → IsFaultOf r fault → IsFaultOf (made f r) fault
+fault_made f r (Line i) is = ap (made f) is
+fault_made f r NoMemory is = tt
+
+-- a row of one number
+pub one_number : (row : List ℤ) → length row ≡ 1 → row ≡ get_or row 0 (pos 0) ∷ []
+one_number [] size = absurd (omega arith)
+one_number (x ∷ []) size = refl
+one_number (x ∷ y ∷ row) size = absurd (omega arith)

@@ -1,6 +1,6 @@
 -- What bytes mean as a certificate or a vector: a value, or the number of the first line that is not in the grammar.
 use Rattle.std.specs.Prelude.{◌==◌, ℕ, ◌+◌, ◌-◌, ℤ, pos, ◌≤ℤ◌, Bool, true, cond, List, [], ◌∷◌, length, map, drop, codes, Option, Some, None, option_and_then, Result, Ok, Err, slice_index_or}
-use Rattle.std.specs.List.{slice_split, AllByRecursion}
+use Rattle.std.specs.List.{slice_split, All}
 use Rattle.mp_model.specs.Certificate.{Cert, Mix, int_entry}
 use Rattle.mp_model.specs.Network.{Network, Junction}
 use Rattle.mp_model.specs.Stream.{lines_of}
@@ -49,14 +49,14 @@ row_of form line = of_count form.count (option_and_then spaced_numbers (behind f
 
 -- Numbers are natural where none of them is below 0.
 abbrev pub AreNatural : List ℤ → Type 0
-AreNatural ns = AllByRecursion (λ n. pos 0 ≤ℤ n) ns
+AreNatural ns = All (λ n. pos 0 ≤ℤ n) ns
 
 -- A certificate is natural where none of its numbers is below 0.
 pub record IsNatural (cert : Cert) : Type 0 where
   pub denominator : pos 0 ≤ℤ cert.d
   pub excess : pos 0 ≤ℤ cert.e
   pub rates : AreNatural cert.h
-  pub mixes : AllByRecursion (λ mix. (pos 0 ≤ℤ mix.whole) × AreNatural mix.parts) cert.mixes
+  pub mixes : All (λ mix. (pos 0 ≤ℤ mix.whole) × AreNatural mix.parts) cert.mixes
 
 -- A line is passed over where it is empty or begins with `#`.
 abbrev pub is_passed_over : List ℕ → Bool
@@ -80,10 +80,14 @@ rows_of n (form ∷ forms) [] = Err n
 rows_of n [] (line ∷ lines) = cond (is_passed_over line) (rows_of (n + 1) [] lines) (Err n)
 rows_of n (form ∷ forms) (line ∷ lines) = cond (is_passed_over line) (rows_of (n + 1) (form ∷ forms) lines) (row_before n (row_of form line) (rows_of (n + 1) forms lines))
 
--- The lines of mixes, from junction j on, have the junction's number, a whole, and a part per stage.
+-- The line of a mix has the number of its junction, a whole, and a part per stage.
+abbrev pub mix_form : ℕ → Junction → Form
+mix_form j junction = record { words = mix_words j; count = 1 + length junction.stages }
+
+-- These are the forms of the lines of mixes, from junction j on.
 abbrev pub mix_forms : ℕ → List Junction → List Form
 mix_forms j [] = []
-mix_forms j (junction ∷ junctions) = record { words = mix_words j; count = 1 + length junction.stages } ∷ mix_forms (j + 1) junctions
+mix_forms j (junction ∷ junctions) = mix_form j junction ∷ mix_forms (j + 1) junctions
 
 -- The lines of a certificate are its first line, one number behind `d`, one behind `e`, one per movement behind `h`, and the lines of its mixes.
 abbrev pub cert_forms : Network → List Form

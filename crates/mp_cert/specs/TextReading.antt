@@ -1,9 +1,8 @@
 -- How the lines ahead are read, one after another.
-use Rattle.std.specs.Prelude.{◌≡◌, ◌+◌, ◌-◌, ◌<◌, ◌≤◌, ◌^◌, false, ℕ, ℤ, List, [], ◌∷◌, length, Result, Ok}
+use Rattle.std.specs.Prelude.{◌≡◌, ◌+◌, ◌-◌, ◌<◌, ◌≤◌, ◌^◌, false, ℕ, ℤ, List, [], ◌∷◌, ◌++◌, length, Result, Ok}
 use Rattle.mp_model.specs.Stream.{lines_of}
-use Rattle.mp_model.specs.Network.{Junction}
 use Rattle.mp_cert.specs.declared.types.Mix.{Mix}
-use Rattle.mp_cert.specs.Texts.{mix_words, mix_numbers}
+use Rattle.mp_cert.specs.Texts.{mix_numbers}
 use Rattle.mp_cert.specs.Views.{mix_of}
 use Rattle.mp_cert.specs.declared.text_fault.TextFault.{TextFault}
 use Rattle.mp_cert.specs.TextFaults.{IsFaultOf}
@@ -39,10 +38,14 @@ RefusesAhead form n text fault = (forms : List Form) → IsFaultOf (rows_ahead n
 abbrev pub HasRoom : ℕ → List ℕ → Type 0
 HasRoom n text = n + length text < 2 ^ 64
 
--- The line of a mix has the number of its junction, a whole, and a part per stage.
-abbrev pub mix_form : ℕ → Junction → Form
-mix_form j junction = record { words = mix_words j; count = 1 + length junction.stages }
+-- The rows were read of the lines ahead, before those of further forms.
+abbrev pub ReadsRows : List Form → List (List ℤ) → List Form → ℕ → List ℕ → ℕ → List ℕ → Type 0
+ReadsRows all rows forms n text m rest = rows_ahead n text all ≡ made (λ others. rows ++ others) (rows_ahead m rest forms)
 
 -- These are the numbers of a mix.
 abbrev pub mix_row : Mix → List ℤ
 mix_row mix = mix_numbers (mix_of mix)
+
+-- These are the rows before those of the mixes.
+abbrev pub head_rows : ℤ → ℤ → List ℤ → List (List ℤ)
+head_rows d e h = [] ∷ (d ∷ []) ∷ (e ∷ []) ∷ h ∷ []

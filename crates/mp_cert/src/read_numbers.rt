@@ -60,12 +60,7 @@ fn first_number(bytes: &[u8]) -> Option<Read<'_>>
 }
 
 // The numbers of bytes in which each number has one space before it, where there are so many.
-fn read_spaced(
-    alloc: Global,
-    bytes: &[u8],
-    count: usize,
-    line: u64,
-) -> Result<Vec<i128>, TextFault>
+fn read_spaced(alloc: Global, bytes: &[u8], count: usize, line: u64) -> Result<Vec<i128>, TextFault>
     ensures ok { IfOk result (λ row. of_count count (spaced_numbers bytes.now) ≡ Some row.items) }
     ensures fault { IfErr result (RefusesLine line (of_count count (spaced_numbers bytes.now))) }
 {

@@ -25,7 +25,7 @@ fn value_within(digits: &[u8]) -> Option<u128>
     Some(number)
 }
 
-/// The number of the bytes, or `None` where they are no number of at most 2^127 - 1.
+/// The number of the bytes, or `None` exactly where they are none of at most 2^127 - 1.
 pub fn read_big(bytes: &[u8]) -> Option<i128>
     ensures value { result ≡ big_of bytes.now }
 {
