@@ -1,16 +1,20 @@
 -- A period keeps what a session keeps.
-use Rattle.std.proofs.Common.{◌≡◌, ◌≤◌, ◌<◌, ℕ, ◌+◌, ◌-◌, ◌*◌, ◌%◌, List, length, map, sum_by, arith, refl, sym, ◌∙◌, ap, subst}
+use Rattle.std.proofs.Common.{◌≡◌, ◌≤◌, ◌<◌, ℕ, ◌+◌, ◌-◌, ◌*◌, ◌%◌, ℤ, List, [], ◌∷◌, zero, suc, length, map, sum_by, pos, unsigned_abs, arith, refl, sym, ◌∙◌, ap, subst}
 use Rattle.std.specs.List.{AllByRecursion}
+use Rattle.std.specs.Prelude.{slice_index_or, slice_index}
 use Rattle.std.proofs.lemmas.Simd.{map-map}
+use Rattle.std.proofs.lemmas.List.{length-map}
+use Rattle.std.proofs.lemmas.List.FromFn.{length-range_with_len}
 use Rattle.mp_model.specs.Arrivals.{arrivals_of}
 use Rattle.mp_model.specs.Network.{Network, movement_numbers, link_numbers, link_at, from_of, entry}
 use Rattle.mp_model.specs.NetworkRules.{IsNetwork}
 use Rattle.mp_model.specs.Pressure.{AllGreatest}
-use Rattle.mp_model.specs.Run.{opening}
-use Rattle.mp_model.specs.Step.{passed, got, new_queue}
+use Rattle.mp_model.specs.Bounds.{queue_bound}
+use Rattle.mp_model.specs.Run.{opening, advance, greatest_stages}
+use Rattle.mp_model.specs.Step.{State, passed, got, new_queue, step}
 use Rattle.mp_laws.specs.Periods.{IsPeriod}
 use Rattle.mp_laws.proofs.Keeps.{drift_kept, few_queued, queues_bounded}
-use Rattle.mp_laws.proofs.Lists.{at_in, each_in, numbered}
+use Rattle.mp_laws.proofs.Lists.{at_in, at_range, each_in, numbered}
 use Rattle.mp_laws.proofs.Sums.{sum_by-same_at, sum_by-zero}
 use Rattle.mp_step.specs.BucketLevels.{level_then}
 use Rattle.mp_step.specs.Standing.{Standing, IsOn, Stands, closed}
@@ -64,3 +68,23 @@ low_at_opening net ok st on stands E D =
 -- each queue is at most its bound
 pub within_bounds : (s : Bounded) → (b : IsBounded s) → AllByRecursion (λ k. entry s.at.queues k ≤ entry b.bounds.bounds k) (movement_numbers s.net)
 within_bounds s b = queues_bounded s.net b.acceptable.network (excess s.slack) (denominator s.slack) b.bounds.bounds b.bounds.are (entry s.at.queues) (entry s.at.phases) (entry s.at.levels) b.on.within b.drift
+
+entry_signed : (xs : List ℕ) (i : ℕ) → slice_index_or (map pos xs) i (pos 0) ≡ pos (slice_index xs i)
+entry_signed [] i = refl
+entry_signed (x ∷ xs) zero = refl
+entry_signed (x ∷ xs) (suc i) = entry_signed xs i
+
+pub queue_within : (s : Bounded) → IsBounded s → (k : ℕ) → 1 ≤ k → k ≤ length s.net.movements → entry s.at.queues k ≤ unsigned_abs (slice_index_or s.bounds (k - 1) (pos 0))
+queue_within s b k some few =
+    let at : entry s.at.queues k ≤ entry b.bounds.bounds k = at_range (λ k. entry s.at.queues k ≤ entry b.bounds.bounds k) 1 (length s.net.movements) k some (omega arith) (within_bounds s b) in
+    subst (λ (n : ℤ). entry s.at.queues k ≤ unsigned_abs n) (sym (ap (λ xs. slice_index_or xs (k - 1) (pos 0)) b.bounds.listed ∙ entry_signed b.bounds.bounds (k - 1))) at
+
+-- there is a bound for each movement
+pub bounds_size : (s : Bounded) → IsBounded s → length s.bounds ≡ length s.net.movements
+bounds_size s b = ap length b.bounds.listed ∙ length-map b.bounds.bounds pos ∙ ap length b.bounds.are.are ∙ length-map (movement_numbers s.net) (queue_bound s.net b.bounds.are.root) ∙ length-range_with_len 1 (length s.net.movements)
+
+-- the step of the greatest stages goes on
+pub stands_next : (net : Network) (st new : Standing) (stages counts : List ℕ) → stages ≡ greatest_stages net (entry st.queues) → ((state : State) → Stands net st state → Stands net new (step net stages (arrivals_of net counts) state))
+    → (state : State) → Stands net st state → Stands net new (advance net counts state)
+stands_next net st new stages counts chosen closes state stands =
+    subst (λ (ss : List ℕ). Stands net new (step net ss (arrivals_of net counts) state)) (chosen ∙ ap (λ q. greatest_stages net (entry q)) stands.queues) (closes state stands)

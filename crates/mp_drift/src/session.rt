@@ -11,7 +11,7 @@ ghost use Rattle.mp_cert.specs.Views.{cert_of};
 ghost use Rattle.mp_step.specs.Standing.{Stands};
 ghost use Rattle.mp_step.specs.Taken.{HasTaken};
 ghost use Rattle.mp_drift.specs.Bounded.{excess, denominator};
-ghost use Rattle.mp_drift.specs.Session.{IsBounded, IsRefused};
+ghost use Rattle.mp_drift.specs.Session.{IsBounded, IsRefused, open_fault};
 
 use crate::numbers::constants;
 use crate::queue_bounds::bounds;
@@ -25,6 +25,14 @@ use mp_step::{AboveAt, State};
 use std::alloc::Global;
 use std::marker::Model;
 
+// The bound of the movement, in a list of one per movement.
+fn bound_at(bounds: &[i128], k: MovementNo) -> i128
+    requires { (1 ≤ k) × (k ≤ length bounds.now) }
+    ensures { result ≡ slice_index_or bounds.now (k - 1) (pos 0) }
+{
+    bounds[usize::from(k) - 1]
+}
+
 /// Why a session can't be opened.
 #[derive(Clone, Copy, Debug, PartialEq, Eq)]
 pub enum OpenFault {
@@ -34,6 +42,16 @@ pub enum OpenFault {
     Calc(CalcFault),
     /// There was no memory.
     NoMemory,
+}
+
+// The fault of the bounds, as that of an opening.
+fn open_fault(fault: CalcFault) -> OpenFault
+    ensures { result ≡ open_fault fault }
+{
+    match fault {
+        CalcFault::NoMemory => OpenFault::NoMemory,
+        _ => OpenFault::Calc(fault),
+    }
 }
 
 /// A run of max-pressure control on a network with a checked certificate.
@@ -82,8 +100,7 @@ impl<'a> Session<'a> {
         };
         let bound = match bounds(alloc, net, &constants, &slack) {
             Ok(found) => found.bound,
-            Err(CalcFault::NoMemory) => return Err(OpenFault::NoMemory),
-            Err(fault) => return Err(OpenFault::Calc(fault)),
+            Err(fault) => return Err(open_fault(fault)),
         };
         let Ok(state) = State::empty(alloc, net) else {
             return Err(OpenFault::NoMemory);
@@ -124,7 +141,7 @@ impl<'a> Session<'a> {
         ensures value { result ≡ slice_index_or self.now.bounds (k - 1) (pos 0) }
         ensures holds { entry self.now.at.queues k ≤ unsigned_abs result }
     {
-        self.bound.as_slice()[usize::from(k) - 1]
+        bound_at(self.bound.as_slice(), k)
     }
 
     /// Where the run stands.
