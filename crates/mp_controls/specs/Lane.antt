@@ -1,0 +1,34 @@
+-- Networks that the controls are computed at.
+use Rattle.std.specs.Prelude.{ℕ, [], ◌∷◌, None, codes, pos}
+use Rattle.mp_model.specs.Network.{Network}
+use Rattle.mp_model.specs.Certificate.{Cert}
+
+-- One lane without a burst, of which one vehicle leaves the network in a period.
+abbrev pub lane : ℕ → ℕ → Network
+lane per rate = record {
+  shares = 1;
+  per = per;
+  links = record { name = codes "x"; burst = 0; rate = rate } ∷ [];
+  movements = record { name = codes "xo"; from = 1; to = None; share = 1; flow = 1 } ∷ [];
+  junctions = record { name = codes "j"; stages = (1 ∷ []) ∷ [] } ∷ [];
+}
+
+-- To the lane that nothing enters, no rate at all.
+abbrev pub still_lane : Network
+still_lane = lane 1 0
+
+-- This certificate has its greatest slack, 1.
+abbrev pub still_cert : Cert
+still_cert = record { d = pos 1; e = pos 1; h = pos 1 ∷ []; mixes = record { whole = pos 1; parts = pos 1 ∷ [] } ∷ [] }
+
+-- The slow lane has a rate of one vehicle in two periods.
+abbrev pub slow_lane : Network
+slow_lane = lane 2 1
+
+-- This certificate has its greatest slack, 1/2.
+abbrev pub slow_cert : Cert
+slow_cert = record { d = pos 2; e = pos 1; h = pos 2 ∷ []; mixes = record { whole = pos 1; parts = pos 2 ∷ [] } ∷ [] }
+
+-- A network without links, movements and junctions.
+abbrev pub empty_network : Network
+empty_network = record { shares = 1; per = 1; links = []; movements = []; junctions = [] }

@@ -1,0 +1,6 @@
+pub mod Lane
+pub mod Drift
+pub mod Bounds
+pub mod Splits
+pub mod Periods
+pub mod Order
