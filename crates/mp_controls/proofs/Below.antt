@@ -21,7 +21,7 @@ use Rattle.mp_laws.proofs.Tied.{excess_is, slack_is, one_period_of}
 use Rattle.mp_controls.proofs.Still.{still_movement, brings_less}
 
 -- where there is a movement, ones sum to at least 1
-some_ones : (n : ℕ) → 1 ≤ n → 1 ≤ sum_by (λ (k : ℕ). 1) (numbers_to n)
+pub some_ones : (n : ℕ) → 1 ≤ n → 1 ≤ sum_by (λ (k : ℕ). 1) (numbers_to n)
 some_ones zero h = absurd (omega arith)
 some_ones (suc n) h = omega (arith, sum_by-cons (λ (k : ℕ). 1) 1 (range_with_len 2 n))
 

@@ -1,3 +1,4 @@
 pub mod Lanes
 pub mod Still
 pub mod Below
+pub mod Runs

@@ -4,3 +4,4 @@ pub mod Bounds
 pub mod Splits
 pub mod Periods
 pub mod Order
+pub mod Lower

@@ -4,6 +4,7 @@
 
 ghost use Rattle.mp_controls.specs.Drift.{DriftBelowLaw, NotOfNoMovement, NotTwoBelow};
 ghost use Rattle.mp_controls.specs.Bounds.{NotBoundTwoLower, NotCoreBoundTwoLower, NotBoundsOfNextSlack};
+ghost use Rattle.mp_controls.specs.Lower.{LowerBoundLaw, NotOneLower};
 ghost use Rattle.mp_controls.specs.Splits.{NotLinkSplitOneMore};
 ghost use Rattle.mp_controls.specs.Periods.{NotSharperPeriod};
 ghost use Rattle.mp_controls.specs.Order.{NotGreatestWithoutClosing};
@@ -21,6 +22,16 @@ pub fn drift_of_no_movement_control()
 /// It is not always at most its greatest less 2.
 pub fn drift_two_lower_control()
     ensures { NotTwoBelow }
+{}
+
+/// No queue of a run exceeds what its bound would be if the greatest drift value were one lower.
+pub fn lower_bound_law()
+    ensures { LowerBoundLaw }
+{}
+
+/// Not every queue of a run is at most that bound less 1.
+pub fn lower_bound_control()
+    ensures { NotOneLower }
 {}
 
 /// Not every queue of a run is at most its bound less 2.
