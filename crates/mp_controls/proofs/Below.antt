@@ -43,7 +43,7 @@ still_below net ok some cert holds excess stages arrivals q phase level q' phase
     omega (arith, each, l1, r1, r2, r3, some_ones (length net.movements) some)
 
 -- the excess of a slack above 0
-excess_some : (e D E d : ℕ) → e * D ≡ E * d → 1 ≤ e → 1 ≤ D → 1 ≤ E
+pub excess_some : (e D E d : ℕ) → e * D ≡ E * d → 1 ≤ e → 1 ≤ D → 1 ≤ E
 excess_some e D zero d s a b = absurd (omega (arith, mul-le-mul a b))
 excess_some e D (suc E) d s a b = omega arith
 

@@ -2,3 +2,4 @@ pub mod Lanes
 pub mod Still
 pub mod Below
 pub mod Runs
+pub mod Closer

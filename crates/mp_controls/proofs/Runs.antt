@@ -1,7 +1,7 @@
--- The drift value stays below its greatest along a run, and so each queue stays at most its lower bound.
-use Rattle.std.proofs.Common.{◌≡◌, ℕ, ◌+◌, ◌-◌, ◌*◌, ◌≤◌, List, [], ◌∷◌, length, map, sum_by, nat_abs, arith, ◌∙◌, ap, mul-le-mul, zero-le}
+-- What a drift value that each period keeps tells of the queues of a run.
+use Rattle.std.proofs.Common.{le_trans, subst, ◌≡◌, ℕ, ◌+◌, ◌-◌, ◌*◌, ◌≤◌, List, [], ◌∷◌, length, map, sum_by, nat_abs, arith, ◌∙◌, ap, mul-le-mul, zero-le}
 use Rattle.std.specs.List.{AllByRecursion}
-use Rattle.mp_model.specs.Arrivals.{arrivals_of, next_level, StaysWithin, IsPermitted}
+use Rattle.mp_model.specs.Arrivals.{arrivals_of, next_level, StaysWithin}
 use Rattle.mp_model.specs.Bounds.{IsRoot, credit_term, step_term, drift_constant, greatest_drift, queue_bound}
 use Rattle.mp_model.specs.Certificate.{Cert, Certifies}
 use Rattle.mp_model.specs.DriftValue.{corrected_queue, drift_value}
@@ -18,7 +18,11 @@ use Rattle.mp_laws.proofs.Lists.{AllOf-map, all_of, at_in, each_in, numbered}
 use Rattle.mp_laws.proofs.Permitted.{stays}
 use Rattle.mp_laws.proofs.Sums.{sum_by-le_at, sum_by-same_at, sum_by-zero, terms_le}
 use Rattle.mp_controls.specs.Lower.{AreLowerBounds}
+use Rattle.mp_controls.specs.Closer.{value_of, closer_drift, AreCloserBounds, RunStays}
 use Rattle.mp_controls.proofs.Below.{below, some_ones}
+use Rattle.mp_controls.proofs.Closer.{value_most, closer_kept}
+use Rattle.mp_model.specs.Pressure.{AllGreatest}
+use Rattle.mp_laws.specs.Periods.{IsPeriod}
 
 -- where there is a movement, the drift constant is above 0
 constant_some : (net : Network) → IsNetwork net → 1 ≤ length net.movements → 1 ≤ drift_constant net
@@ -31,44 +35,68 @@ constant_some net ok some =
     omega (arith, mul-le-mul s s))) in
     omega (arith, each, some_ones (length net.movements) some)
 
-module _ (net : Network) (ok : IsNetwork net) (some : 1 ≤ length net.movements) (cert : Cert) (c : Certifies net cert) (E D : ℕ) (slack : IsSlack cert E D) where
-  value_below : (counts : List ℕ) (state : State) (level : ℕ → ℕ) → IsWithin net level → drift_value net (queue state) (phase_of net state) level + 1 ≤ greatest_drift net E D →
-      drift_value net (queue (advance net counts state)) (phase_of net (advance net counts state)) (λ l. next_level net.per (link_at net l).rate (level l) (arrivals_of net counts l)) + 1 ≤ greatest_drift net E D
-  value_below counts state level within top =
-      below net ok some cert c E D slack (greatest_stages net (queue state)) (arrivals_of net counts) (queue state) (phase_of net state) level (queue (advance net counts state)) (phase_of net (advance net counts state)) (λ l. next_level net.per (link_at net l).rate (level l) (arrivals_of net counts l))
-      (all_greatest net (queue state) net.junctions ok.some_stage) (period_is net ok counts state level within) within (omega arith)
+-- at the opening nothing is queued, and the levels are 0
+none_at_opening : (net : Network) → sum_by (queue (opening net)) (movement_numbers net) ≡ 0
+none_at_opening net = sum_by-same_at (queue (opening net)) (λ k. 0) (movement_numbers net) (each_in _ (movement_numbers net) (λ k i. numbered (λ k. 0) (length net.movements) k i)) ∙ sum_by-zero (movement_numbers net)
 
-  bounded_at : (root : ℕ) → IsRoot root (greatest_drift net E D - 1) → (state : State) (level : ℕ → ℕ) → IsWithin net level → drift_value net (queue state) (phase_of net state) level + 1 ≤ greatest_drift net E D → BoundedBy net root state
-  bounded_at root is state level within top = each_in _ (movement_numbers net) (λ k here.
+levels_at_opening : (net : Network) → IsWithin net (λ l. 0)
+levels_at_opening net = all_of (λ l. 0 ≤ net.per * (link_at net l).burst) (λ l. zero-le) (link_numbers net)
+
+-- a drift value that each period keeps at most a top, from the opening on, bounds each queue of the run
+module _ (net : Network) (ok : IsNetwork net) (top : ℕ)
+    (kept : (stages : List ℕ) (arrivals q phase level q' phase' level' : ℕ → ℕ) → AllGreatest net q net.junctions stages → IsPeriod net stages arrivals q phase level q' phase' level' → IsWithin net level → drift_value net q phase level ≤ top → drift_value net q' phase' level' ≤ top)
+    (root : ℕ) (is : IsRoot root top) where
+  value_kept : (counts : List ℕ) (state : State) (level : ℕ → ℕ) → IsWithin net level → drift_value net (queue state) (phase_of net state) level ≤ top →
+      drift_value net (queue (advance net counts state)) (phase_of net (advance net counts state)) (λ l. next_level net.per (link_at net l).rate (level l) (arrivals_of net counts l)) ≤ top
+  value_kept counts state level within below =
+      kept (greatest_stages net (queue state)) (arrivals_of net counts) (queue state) (phase_of net state) level (queue (advance net counts state)) (phase_of net (advance net counts state)) (λ l. next_level net.per (link_at net l).rate (level l) (arrivals_of net counts l))
+      (all_greatest net (queue state) net.junctions ok.some_stage) (period_is net ok counts state level within) within below
+
+  bounded_at : (state : State) (level : ℕ → ℕ) → IsWithin net level → drift_value net (queue state) (phase_of net state) level ≤ top → BoundedBy net root state
+  bounded_at state level within below = each_in _ (movement_numbers net) (λ k here.
       let x : ℕ → ℕ = λ k. nat_abs (corrected_queue net (queue state) (phase_of net state) level k) in
       let term = at_in (λ k. x k * x k ≤ drift_value net (queue state) (phase_of net state) level) k (movement_numbers net) here (terms_le (λ k. x k * x k) (movement_numbers net)) in
-      bound_queue net.shares net.per (queue state k) (credit_term net k) (x k) (greatest_drift net E D - 1) root (mul-le-mul ok.shares ok.per) (omega (arith, term)) is.most (near_queue net ok (queue state) (phase_of net state) level within k here).1)
+      bound_queue net.shares net.per (queue state k) (credit_term net k) (x k) top root (mul-le-mul ok.shares ok.per) (le_trans term below) is.most (near_queue net ok (queue state) (phase_of net state) level within k here).1)
 
-  run_below : (root : ℕ) → IsRoot root (greatest_drift net E D - 1) → (A : List (List ℕ)) (state : State) (level : ℕ → ℕ) → IsWithin net level → drift_value net (queue state) (phase_of net state) level + 1 ≤ greatest_drift net E D →
-      Stays net level A → AllByRecursion (BoundedBy net root) (run_from net state A)
-  run_below root is [] state level within top stays = (bounded_at root is state level within top, tt)
-  run_below root is (counts ∷ A) state level within top stays =
+  run_kept : (A : List (List ℕ)) (state : State) (level : ℕ → ℕ) → IsWithin net level → drift_value net (queue state) (phase_of net state) level ≤ top → Stays net level A → AllByRecursion (BoundedBy net root) (run_from net state A)
+  run_kept [] state level within below stays = (bounded_at state level within below, tt)
+  run_kept (counts ∷ A) state level within below stays =
       let next : ℕ → ℕ = λ l. next_level net.per (link_at net l).rate (level l) (arrivals_of net counts l) in (
-        bounded_at root is state level within top,
-        run_below root is A (advance net counts state) next
+        bounded_at state level within below,
+        run_kept A (advance net counts state) next
             (AllOf-map (λ l. StaysWithin net.per (link_at net l).burst (link_at net l).rate (level l) (map (λ counts. arrivals_of net counts l) (counts ∷ A))) (λ l. next l ≤ net.per * (link_at net l).burst) (λ l s. s.0) (link_numbers net) stays)
-            (value_below counts state level within top)
+            (value_kept counts state level within below)
             (AllOf-map (λ l. StaysWithin net.per (link_at net l).burst (link_at net l).rate (level l) (map (λ counts. arrivals_of net counts l) (counts ∷ A))) (λ l. StaysWithin net.per (link_at net l).burst (link_at net l).rate (next l) (map (λ counts. arrivals_of net counts l) A)) (λ l s. s.1) (link_numbers net) stays),
       )
 
-  opening_below : drift_value net (queue (opening net)) (phase_of net (opening net)) (λ l. 0) + 1 ≤ greatest_drift net E D
-  opening_below =
-      let none : sum_by (queue (opening net)) (movement_numbers net) ≡ 0 = sum_by-same_at (queue (opening net)) (λ k. 0) (movement_numbers net) (each_in _ (movement_numbers net) (λ k i. numbered (λ k. 0) (length net.movements) k i)) ∙ sum_by-zero (movement_numbers net) in
-      let few = few_queued net ok E D (queue (opening net)) (phase_of net (opening net)) (λ l. 0) (all_of (λ l. 0 ≤ net.per * (link_at net l).burst) (λ l. zero-le) (link_numbers net)) (omega arith) in
-      omega (arith, few, constant_some net ok some)
-
-  pub lower_bound : (bounds : List ℕ) → AreLowerBounds net E D bounds → (A : List (List ℕ)) → IsPermitted net A →
-      AllByRecursion (λ state. AllByRecursion (λ k. queue state k + 0 ≤ entry bounds k) (movement_numbers net)) (run net A)
-  lower_bound bounds are A permitted =
-      let all = run_below are.root are.is_root A (opening net) (λ l. 0) (all_of (λ l. 0 ≤ net.per * (link_at net l).burst) (λ l. zero-le) (link_numbers net)) opening_below (stays net A permitted) in
-      AllOf-map (BoundedBy net are.root) (λ state. AllByRecursion (λ k. queue state k + 0 ≤ entry bounds k) (movement_numbers net))
+  run_bounds : drift_value net (queue (opening net)) (phase_of net (opening net)) (λ l. 0) ≤ top → (bounds : List ℕ) → bounds ≡ map (queue_bound net root) (movement_numbers net) → RunStays net bounds 0
+  run_bounds below bounds are A permitted =
+      AllOf-map (BoundedBy net root) (λ state. AllByRecursion (λ k. queue state k + 0 ≤ entry bounds k) (movement_numbers net))
       (λ state h. each_in _ (movement_numbers net) (λ k i.
-      let b : entry bounds k ≡ queue_bound net are.root k = ap (λ bs. entry bs k) are.are ∙ numbered (queue_bound net are.root) (length net.movements) k i in
-      let at = at_in (λ k. queue state k ≤ queue_bound net are.root k) k (movement_numbers net) i h in
+      let b : entry bounds k ≡ queue_bound net root k = ap (λ bs. entry bs k) are ∙ numbered (queue_bound net root) (length net.movements) k i in
+      let at = at_in (λ k. queue state k ≤ queue_bound net root k) k (movement_numbers net) i h in
       omega arith))
-      (run net A) all
+      (run net A) (run_kept A (opening net) (λ l. 0) (levels_at_opening net) below (stays net A permitted))
+
+pub lower_bound : (net : Network) → IsNetwork net → 1 ≤ length net.movements → (cert : Cert) → Certifies net cert → (E D : ℕ) → IsSlack cert E D → (bounds : List ℕ) → AreLowerBounds net E D bounds → RunStays net bounds 0
+lower_bound net ok some cert c E D slack bounds are =
+    let few = few_queued net ok E D (queue (opening net)) (phase_of net (opening net)) (λ l. 0) (levels_at_opening net) (let none = none_at_opening net in omega arith) in
+    let constant = constant_some net ok some in
+    run_bounds net ok (greatest_drift net E D - 1)
+    (λ stages arrivals q phase level q' phase' level' greatest period within top. let b = below net ok some cert c E D slack stages arrivals q phase level q' phase' level' greatest period within (omega arith) in omega arith)
+    are.root are.is_root (omega (arith, few, constant)) bounds are.are
+
+pub closer_bound : (net : Network) → IsNetwork net → (cert : Cert) → Certifies net cert → (E D : ℕ) → IsSlack cert E D → (bounds : List ℕ) → AreCloserBounds net E D bounds → RunStays net bounds 0
+closer_bound net ok cert c E D slack bounds are =
+    let value = value_most net ok (queue (opening net)) (phase_of net (opening net)) (λ l. 0) (levels_at_opening net) in
+    let start : drift_value net (queue (opening net)) (phase_of net (opening net)) (λ l. 0) ≤ value_of net 0 = subst (λ s. drift_value net (queue (opening net)) (phase_of net (opening net)) (λ l. 0) ≤ value_of net s) (none_at_opening net) value in
+    run_bounds net ok (closer_drift net E D) (closer_kept net ok cert c E D slack) are.root are.is_root (omega (arith, start)) bounds are.are
+
+-- a run that stays at most some numbers stays lower than greater ones
+pub lower_than : (net : Network) (bounds above : List ℕ) (less : ℕ) → AllByRecursion (λ k. entry bounds k + less ≤ entry above k) (movement_numbers net) → RunStays net bounds 0 → RunStays net above less
+lower_than net bounds above less lower stays A permitted =
+    AllOf-map (λ state. AllByRecursion (λ k. queue state k + 0 ≤ entry bounds k) (movement_numbers net)) (λ state. AllByRecursion (λ k. queue state k + less ≤ entry above k) (movement_numbers net))
+    (λ state h. each_in _ (movement_numbers net) (λ k here.
+    let a = at_in (λ k. entry bounds k + less ≤ entry above k) k (movement_numbers net) here lower in
+    let b = at_in (λ k. queue state k + 0 ≤ entry bounds k) k (movement_numbers net) here h in
+    omega arith)) (run net A) (stays A permitted)

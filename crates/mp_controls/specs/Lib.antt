@@ -5,3 +5,4 @@ pub mod Splits
 pub mod Periods
 pub mod Order
 pub mod Lower
+pub mod Closer

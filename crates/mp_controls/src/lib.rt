@@ -5,6 +5,7 @@
 ghost use Rattle.mp_controls.specs.Drift.{DriftBelowLaw, NotOfNoMovement, NotTwoBelow};
 ghost use Rattle.mp_controls.specs.Bounds.{NotBoundTwoLower, NotCoreBoundTwoLower, NotBoundsOfNextSlack};
 ghost use Rattle.mp_controls.specs.Lower.{LowerBoundLaw, NotOneLower};
+ghost use Rattle.mp_controls.specs.Closer.{CloserDriftLaw, CloserBoundLaw, WorkedStayLower};
 ghost use Rattle.mp_controls.specs.Splits.{NotLinkSplitOneMore};
 ghost use Rattle.mp_controls.specs.Periods.{NotSharperPeriod};
 ghost use Rattle.mp_controls.specs.Order.{NotGreatestWithoutClosing};
@@ -32,6 +33,21 @@ pub fn lower_bound_law()
 /// Not every queue of a run is at most that bound less 1.
 pub fn lower_bound_control()
     ensures { NotOneLower }
+{}
+
+/// A period keeps the drift value at most the closer drift value too.
+pub fn closer_drift_law()
+    ensures { CloserDriftLaw }
+{}
+
+/// No queue of a run exceeds its closer bound.
+pub fn closer_bound_law()
+    ensures { CloserBoundLaw }
+{}
+
+/// By the closer bounds each queue of the worked networks is at most its bound less 1.
+pub fn worked_bounds_one_lower()
+    ensures { WorkedStayLower }
 {}
 
 /// Not every queue of a run is at most its bound less 2.
