@@ -10,16 +10,16 @@ use Rattle.mp_model.specs.Run.{run}
 use Rattle.mp_model.specs.Slack.{IsGreatestSlack}
 use Rattle.mp_model.specs.Step.{queue}
 
--- Over permitted arrivals each queue of each state of the run is lower than its bound by this much or more, where the network can be accepted and the slack is the greatest.
+-- In a network that can be accepted, under its greatest slack and over permitted arrivals, each queue of each state of the run is below its bound by so much or more.
 abbrev pub BoundLower : ℕ → Type 0
 BoundLower less = (net : Network) → IsAcceptable net → (E D : ℕ) → IsGreatestSlack net E D → (bounds : List ℕ) → AreBounds net E D bounds → (A : List (List ℕ)) → IsPermitted net A →
     AllByRecursion (λ state. AllByRecursion (λ k. queue state k + less ≤ entry bounds k) (movement_numbers net)) (run net A)
 
--- Not each queue stays at least 2 below its bound: that of the slow lane is 1.
+-- Not each queue stays at least 2 below its bound: the bound of the slow lane is 1.
 abbrev pub NotBoundTwoLower : Type 0
 NotBoundTwoLower = ¬ BoundLower 2
 
--- After any events that closed lists of one count per fed link each queue of the core is lower than its bound by this much or more.
+-- After any events that closed lists of one count per fed link, each queue of the core of such a network is below its bound by so much or more.
 abbrev pub CoreBoundLower : ℕ → Type 0
 CoreBoundLower less = (net : Network) → IsAcceptable net → (E D : ℕ) → IsGreatestSlack net E D → (bounds : List ℕ) → AreBounds net E D bounds → (es : List Event) → AllByRecursion (HasCounts net) (closed_of net (core_opening net) es) →
     AllByRecursion (λ k. entry (core_after net (core_opening net) es).queues k + less ≤ entry bounds k) (movement_numbers net)

@@ -22,7 +22,7 @@ credit_part net k = net.per * (length (out_of net (from_of net k)) - 1) * (net.s
 abbrev pub burst_part : Network → ℕ
 burst_part net = sum_by (λ k. credit_term net k * credit_term net k - credit_part net k * credit_part net k) (movement_numbers net)
 
--- While s vehicles are queued the drift value is at most this: a full bucket lowers a corrected queue, and so the bursts stand apart from the square of the rest.
+-- While s vehicles are queued, the drift value is at most the burst part plus the square of the sum of the credit parts and the share total times the rate length times s: a full bucket only lowers a corrected queue.
 abbrev pub value_of : Network → ℕ → ℕ
 value_of net s =
     let root = net.shares * net.per * s + sum_by (credit_part net) (movement_numbers net) in
@@ -48,7 +48,7 @@ pub record AreCloserBounds (net : Network) (E D : ℕ) (bounds : List ℕ) : Typ
   pub is_root : IsRoot root (closer_drift net E D)
   pub are : bounds ≡ map (queue_bound net root) (movement_numbers net)
 
--- Over permitted arrivals each queue of each state of the run of a network is lower than the number of its movement by this much or more.
+-- Over permitted arrivals each queue of each state of the run of a network is below the number listed for its movement by so much or more.
 abbrev pub RunStays : Network → List ℕ → ℕ → Type 0
 RunStays net bounds less = (A : List (List ℕ)) → IsPermitted net A → AllByRecursion (λ state. AllByRecursion (λ k. queue state k + less ≤ entry bounds k) (movement_numbers net)) (run net A)
 

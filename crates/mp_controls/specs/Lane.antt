@@ -3,7 +3,7 @@ use Rattle.std.specs.Prelude.{ℕ, [], ◌∷◌, None, codes, pos}
 use Rattle.mp_model.specs.Network.{Network}
 use Rattle.mp_model.specs.Certificate.{Cert}
 
--- One lane without a burst, of which one vehicle leaves the network in a period.
+-- One lane has no burst, and at most one vehicle of it leaves the network in a period.
 abbrev pub lane : ℕ → ℕ → Network
 lane per rate = record {
   shares = 1;
@@ -13,7 +13,7 @@ lane per rate = record {
   junctions = record { name = codes "j"; stages = (1 ∷ []) ∷ [] } ∷ [];
 }
 
--- To the lane that nothing enters, no rate at all.
+-- The still lane has no rate, and nothing ever enters it.
 abbrev pub still_lane : Network
 still_lane = lane 1 0
 
@@ -29,6 +29,6 @@ slow_lane = lane 2 1
 abbrev pub slow_cert : Cert
 slow_cert = record { d = pos 2; e = pos 1; h = pos 2 ∷ []; mixes = record { whole = pos 1; parts = pos 2 ∷ [] } ∷ [] }
 
--- A network without links, movements and junctions.
+-- The empty network has no links, movements or junctions.
 abbrev pub empty_network : Network
 empty_network = record { shares = 1; per = 1; links = []; movements = []; junctions = [] }

@@ -16,7 +16,7 @@ pub record AreLowerBounds (net : Network) (E D : ℕ) (bounds : List ℕ) : Type
   pub is_root : IsRoot root (greatest_drift net E D - 1)
   pub are : bounds ≡ map (queue_bound net root) (movement_numbers net)
 
--- In a network with a movement, over permitted arrivals of any length, each queue of each state of the run is lower than its lower bound by this much or more.
+-- In a network with a movement, over permitted arrivals of any length, each queue of each state of the run is below its lower bound by so much or more.
 abbrev pub StaysLower : ℕ → Type 0
 StaysLower less = (net : Network) → IsNetwork net → 1 ≤ length net.movements → (cert : Cert) → Certifies net cert → (E D : ℕ) → IsSlack cert E D → (bounds : List ℕ) → AreLowerBounds net E D bounds → (A : List (List ℕ)) → IsPermitted net A →
     AllByRecursion (λ state. AllByRecursion (λ k. queue state k + less ≤ entry bounds k) (movement_numbers net)) (run net A)
@@ -25,6 +25,6 @@ StaysLower less = (net : Network) → IsNetwork net → 1 ≤ length net.movemen
 abbrev pub LowerBoundLaw : Type 0
 LowerBoundLaw = StaysLower 0
 
--- Not each stays at least 1 below it: that of the still lane is 0.
+-- Not each stays at least 1 below it: the lower bound of the still lane is 0.
 abbrev pub NotOneLower : Type 0
 NotOneLower = ¬ StaysLower 1
