@@ -3,3 +3,4 @@ pub mod Still
 pub mod Below
 pub mod Runs
 pub mod Closer
+pub mod Numbers
