@@ -4,3 +4,4 @@ pub mod Below
 pub mod Runs
 pub mod Closer
 pub mod Numbers
+pub mod Burst

@@ -31,7 +31,7 @@ serve_numbers : (m h c s t d : ℕ) → 1 ≤ m → m * h ≤ c * s → s ≤ t 
 serve_numbers m h c s t d some serve most mass = le_of_mul-le-mul_left {k = m} (omega (arith, mul-le-mul_left c most, mul-le-mul_left c mass)) some
 
 -- so the rate of a movement is at most its flow
-rate_most : (net : Network) (d : ℕ) (h : ℕ → ℕ) (k : ℕ) → has (movement_numbers net) k ≡ true → (js : List Junction) (mixes : List PlainMix) → AllServe net d h js mixes → 1 ≤ sum_by (λ j. cond (stands_in j k) 1 0) js → h k ≤ flow_of net k * d
+pub rate_most : (net : Network) (d : ℕ) (h : ℕ → ℕ) (k : ℕ) → has (movement_numbers net) k ≡ true → (js : List Junction) (mixes : List PlainMix) → AllServe net d h js mixes → 1 ≤ sum_by (λ j. cond (stands_in j k) 1 0) js → h k ≤ flow_of net k * d
 rate_most net d h k here [] mixes serves some = absurd (omega arith)
 rate_most net d h k here (j ∷ js) [] serves some = absurd serves
 rate_most net d h k here (j ∷ js) (mix ∷ mixes) serves some = go (rate_most net d h k here js mixes serves.1) (stands_in j k) refl

@@ -6,3 +6,4 @@ pub mod Periods
 pub mod Order
 pub mod Lower
 pub mod Closer
+pub mod OneLower

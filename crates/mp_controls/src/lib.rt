@@ -6,6 +6,7 @@ ghost use Rattle.mp_controls.specs.Drift.{DriftBelowLaw, NotOfNoMovement, NotTwo
 ghost use Rattle.mp_controls.specs.Bounds.{NotBoundTwoLower, NotCoreBoundTwoLower, NotBoundsOfNextSlack};
 ghost use Rattle.mp_controls.specs.Lower.{LowerBoundLaw, NotOneLower};
 ghost use Rattle.mp_controls.specs.Closer.{CloserDriftLaw, CloserBoundLaw, WorkedStayLower};
+ghost use Rattle.mp_controls.specs.OneLower.{OneLowerLaw, CoreOneLowerLaw};
 ghost use Rattle.mp_controls.specs.Splits.{NotLinkSplitOneMore};
 ghost use Rattle.mp_controls.specs.Periods.{NotSharperPeriod};
 ghost use Rattle.mp_controls.specs.Order.{NotGreatestWithoutClosing};
@@ -48,6 +49,16 @@ pub fn closer_bound_law()
 /// By the closer bounds each queue of the worked networks is at most its bound less 1.
 pub fn worked_bounds_one_lower()
     ensures { WorkedStayLower }
+{}
+
+/// In a network with a burst and three movements no queue of a run reaches its bound.
+pub fn one_lower_law()
+    ensures { OneLowerLaw }
+{}
+
+/// Nor does one of the event core.
+pub fn core_one_lower_law()
+    ensures { CoreOneLowerLaw }
 {}
 
 /// Not every queue of a run is at most its bound less 2.
