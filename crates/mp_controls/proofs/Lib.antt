@@ -5,3 +5,4 @@ pub mod Runs
 pub mod Closer
 pub mod Numbers
 pub mod Burst
+pub mod Three

@@ -32,3 +32,17 @@ slow_cert = record { d = pos 2; e = pos 1; h = pos 2 ∷ []; mixes = record { wh
 -- The empty network has no links, movements or junctions.
 abbrev pub empty_network : Network
 empty_network = record { shares = 1; per = 1; links = []; movements = []; junctions = [] }
+
+-- Three approaches of a junction take turns.
+abbrev pub three_approaches : Network
+three_approaches = record {
+  shares = 1;
+  per = 4;
+  links = record { name = codes "a"; burst = 1; rate = 1 } ∷ record { name = codes "b"; burst = 1; rate = 1 } ∷ record { name = codes "c"; burst = 1; rate = 1 } ∷ [];
+  movements = record { name = codes "ao"; from = 1; to = None; share = 1; flow = 2 } ∷ record { name = codes "bo"; from = 2; to = None; share = 1; flow = 2 } ∷ record { name = codes "co"; from = 3; to = None; share = 1; flow = 2 } ∷ [];
+  junctions = record { name = codes "j"; stages = (1 ∷ []) ∷ (2 ∷ []) ∷ (3 ∷ []) ∷ [] } ∷ [];
+}
+
+-- This certificate has their greatest slack, 5/12.
+abbrev pub three_approaches_cert : Cert
+three_approaches_cert = record { d = pos 12; e = pos 5; h = pos 8 ∷ pos 8 ∷ pos 8 ∷ []; mixes = record { whole = pos 1; parts = pos 4 ∷ pos 4 ∷ pos 4 ∷ [] } ∷ [] }

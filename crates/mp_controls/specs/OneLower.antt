@@ -1,5 +1,5 @@
 -- The bound law one lower, for networks with a burst and three movements.
-use Rattle.std.specs.Prelude.{◌≡◌, ◌≤◌, ℕ, ◌+◌, List, length, true}
+use Rattle.std.specs.Prelude.{◌≡◌, ◌≤◌, ℕ, ◌+◌, List, [], ◌∷◌, length, true}
 use Rattle.std.specs.List.{AllByRecursion}
 use Rattle.mp_model.specs.Arrivals.{HasCounts}
 use Rattle.mp_model.specs.Bounds.{AreBounds}
@@ -8,7 +8,9 @@ use Rattle.mp_model.specs.EventCore.{Event, core_opening, core_after, closed_of}
 use Rattle.mp_model.specs.Network.{Network, movement_numbers, link_numbers, link_at, has, entry}
 use Rattle.mp_model.specs.NetworkRules.{IsNetwork}
 use Rattle.mp_model.specs.Slack.{IsSlack}
+use Rattle.mp_laws.specs.Cases.{IsWorked}
 use Rattle.mp_controls.specs.Closer.{RunStays}
+use Rattle.mp_controls.specs.Lane.{three_approaches, three_approaches_cert}
 
 -- A network has a burst where the burst of some link is at least 1.
 abbrev pub HasBurst : Network → Type 0
@@ -22,3 +24,9 @@ OneLowerLaw = (net : Network) → IsNetwork net → HasBurst net → 3 ≤ lengt
 abbrev pub CoreOneLowerLaw : Type 0
 CoreOneLowerLaw = (net : Network) → IsNetwork net → HasBurst net → 3 ≤ length net.movements → (cert : Cert) → Certifies net cert → (E D : ℕ) → IsSlack cert E D → (bounds : List ℕ) → AreBounds net E D bounds → (es : List Event) → AllByRecursion (HasCounts net) (closed_of net (core_opening net) es) →
     AllByRecursion (λ k. entry (core_after net (core_opening net) es).queues k + 1 ≤ entry bounds k) (movement_numbers net)
+
+-- Three approaches meet the premises of both: they have a certificate of slack 5/12, bounds of 40, a burst and three movements.
+pub record ThreeApproachesCase : Type 0 where
+  pub worked : IsWorked three_approaches three_approaches_cert 5 12 (40 ∷ 40 ∷ 40 ∷ []) ((1 ∷ 1 ∷ 1 ∷ []) ∷ (0 ∷ 0 ∷ 0 ∷ []) ∷ [])
+  pub burst : HasBurst three_approaches
+  pub three : 3 ≤ length three_approaches.movements

@@ -6,7 +6,7 @@ ghost use Rattle.mp_controls.specs.Drift.{DriftBelowLaw, NotOfNoMovement, NotTwo
 ghost use Rattle.mp_controls.specs.Bounds.{NotBoundTwoLower, NotCoreBoundTwoLower, NotBoundsOfNextSlack};
 ghost use Rattle.mp_controls.specs.Lower.{LowerBoundLaw, NotOneLower};
 ghost use Rattle.mp_controls.specs.Closer.{CloserDriftLaw, CloserBoundLaw, WorkedStayLower};
-ghost use Rattle.mp_controls.specs.OneLower.{OneLowerLaw, CoreOneLowerLaw};
+ghost use Rattle.mp_controls.specs.OneLower.{OneLowerLaw, CoreOneLowerLaw, ThreeApproachesCase};
 ghost use Rattle.mp_controls.specs.Splits.{NotLinkSplitOneMore};
 ghost use Rattle.mp_controls.specs.Periods.{NotSharperPeriod};
 ghost use Rattle.mp_controls.specs.Order.{NotGreatestWithoutClosing};
@@ -59,6 +59,11 @@ pub fn one_lower_law()
 /// Nor does one of the event core.
 pub fn core_one_lower_law()
     ensures { CoreOneLowerLaw }
+{}
+
+/// Three approaches that take turns meet the premises of both, with a slack of 5/12.
+pub fn three_approaches_case()
+    ensures { ThreeApproachesCase }
 {}
 
 /// Not every queue of a run is at most its bound less 2.
