@@ -76,7 +76,7 @@ slow_acceptable = record {
   };
 }
 
-slow_certified : Certifies slow_lane slow_cert
+pub slow_certified : Certifies slow_lane slow_cert
 slow_certified = record {
   rules = record {
     lengths = record { rates = refl; mixes = refl; parts = (refl, tt) };
@@ -94,10 +94,13 @@ slow_certified = record {
 gcd_one_two : IsGcd 1 2 1
 gcd_one_two = (one-dvd 1, one-dvd 2, λ x x1 x2. x1)
 
+pub slow_cert_slack : IsSlack slow_cert 1 2
+slow_cert_slack = record { lowest = record { denominator = lit≤ tt; coprime = gcd_one_two }; equal = refl }
+
 pub slow_slack : IsGreatestSlack slow_lane 1 2
 slow_slack = record {
   above = lit≤ tt;
-  reached = (slow_cert, slow_certified, record { lowest = record { denominator = lit≤ tt; coprime = gcd_one_two }; equal = refl });
+  reached = (slow_cert, slow_certified, slow_cert_slack);
   shown = (1 ∷ [], record { vector = record { lengths = refl; some = lit≤ tt }; equal = refl });
 }
 

@@ -6,3 +6,4 @@ pub mod Closer
 pub mod Numbers
 pub mod Burst
 pub mod Three
+pub mod ThreeLanes

@@ -52,9 +52,17 @@ pub record AreCloserBounds (net : Network) (E D : ℕ) (bounds : List ℕ) : Typ
 abbrev pub RunStays : Network → List ℕ → ℕ → Type 0
 RunStays net bounds less = (A : List (List ℕ)) → IsPermitted net A → AllByRecursion (λ state. AllByRecursion (λ k. queue state k + less ≤ entry bounds k) (movement_numbers net)) (run net A)
 
--- Over permitted arrivals of any length each queue of each state of the run is at most its closer bound.
+-- Over permitted arrivals of any length each queue of each state of the run is below its closer bound by so much or more.
+abbrev pub StaysCloser : ℕ → Type 0
+StaysCloser less = (net : Network) → IsNetwork net → (cert : Cert) → Certifies net cert → (E D : ℕ) → IsSlack cert E D → (bounds : List ℕ) → AreCloserBounds net E D bounds → RunStays net bounds less
+
+-- Each queue is at most its closer bound.
 abbrev pub CloserBoundLaw : Type 0
-CloserBoundLaw = (net : Network) → IsNetwork net → (cert : Cert) → Certifies net cert → (E D : ℕ) → IsSlack cert E D → (bounds : List ℕ) → AreCloserBounds net E D bounds → RunStays net bounds 0
+CloserBoundLaw = StaysCloser 0
+
+-- Not each is at least 2 below it: the closer bound of the slow lane is 1.
+abbrev pub NotCloserTwoLower : Type 0
+NotCloserTwoLower = ¬ StaysCloser 2
 
 -- Two approaches with bounds of 24 stay at least 4 below them, the tandem with bounds of 10 and 9 and the roundabout with bounds of 14 at least 1.
 pub record WorkedStayLower : Type 0 where

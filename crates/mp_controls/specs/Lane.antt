@@ -46,3 +46,17 @@ three_approaches = record {
 -- This certificate has their greatest slack, 5/12.
 abbrev pub three_approaches_cert : Cert
 three_approaches_cert = record { d = pos 12; e = pos 5; h = pos 8 ∷ pos 8 ∷ pos 8 ∷ []; mixes = record { whole = pos 1; parts = pos 4 ∷ pos 4 ∷ pos 4 ∷ [] } ∷ [] }
+
+-- Three lanes have green together, and only the first has a burst.
+abbrev pub three_lanes : Network
+three_lanes = record {
+  shares = 1;
+  per = 1;
+  links = record { name = codes "a"; burst = 1; rate = 0 } ∷ record { name = codes "b"; burst = 0; rate = 0 } ∷ record { name = codes "c"; burst = 0; rate = 0 } ∷ [];
+  movements = record { name = codes "ao"; from = 1; to = None; share = 1; flow = 1 } ∷ record { name = codes "bo"; from = 2; to = None; share = 1; flow = 1 } ∷ record { name = codes "co"; from = 3; to = None; share = 1; flow = 1 } ∷ [];
+  junctions = record { name = codes "j"; stages = (1 ∷ 2 ∷ 3 ∷ []) ∷ [] } ∷ [];
+}
+
+-- This certificate has their greatest slack, 1.
+abbrev pub three_lanes_cert : Cert
+three_lanes_cert = record { d = pos 1; e = pos 1; h = pos 1 ∷ pos 1 ∷ pos 1 ∷ []; mixes = record { whole = pos 1; parts = pos 1 ∷ [] } ∷ [] }

@@ -16,9 +16,17 @@ use Rattle.mp_controls.specs.Lane.{three_approaches, three_approaches_cert}
 abbrev pub HasBurst : Network → Type 0
 HasBurst net = (l : ℕ) × (has (link_numbers net) l ≡ true) × (1 ≤ (link_at net l).burst)
 
--- In a network with a burst and at least three movements, over permitted arrivals of any length, each queue of each state of the run is at least 1 below its bound.
+-- In a network with a burst and at least three movements, over permitted arrivals of any length, each queue of each state of the run is below its bound by so much or more.
+abbrev pub BurstStaysLower : ℕ → Type 0
+BurstStaysLower less = (net : Network) → IsNetwork net → HasBurst net → 3 ≤ length net.movements → (cert : Cert) → Certifies net cert → (E D : ℕ) → IsSlack cert E D → (bounds : List ℕ) → AreBounds net E D bounds → RunStays net bounds less
+
+-- In such a network each queue is at least 1 below its bound.
 abbrev pub OneLowerLaw : Type 0
-OneLowerLaw = (net : Network) → IsNetwork net → HasBurst net → 3 ≤ length net.movements → (cert : Cert) → Certifies net cert → (E D : ℕ) → IsSlack cert E D → (bounds : List ℕ) → AreBounds net E D bounds → RunStays net bounds 1
+OneLowerLaw = BurstStaysLower 1
+
+-- Not each is at least 4 below it: of three lanes with one burst two have a bound of 3.
+abbrev pub NotFourLower : Type 0
+NotFourLower = ¬ BurstStaysLower 4
 
 -- In such a network, after any events that closed lists of one count per fed link, each queue of the core is at least 1 below its bound.
 abbrev pub CoreOneLowerLaw : Type 0

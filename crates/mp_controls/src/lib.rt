@@ -5,8 +5,8 @@
 ghost use Rattle.mp_controls.specs.Drift.{DriftBelowLaw, NotOfNoMovement, NotTwoBelow};
 ghost use Rattle.mp_controls.specs.Bounds.{NotBoundTwoLower, NotCoreBoundTwoLower, NotBoundsOfNextSlack};
 ghost use Rattle.mp_controls.specs.Lower.{LowerBoundLaw, NotOneLower};
-ghost use Rattle.mp_controls.specs.Closer.{CloserDriftLaw, CloserBoundLaw, WorkedStayLower};
-ghost use Rattle.mp_controls.specs.OneLower.{OneLowerLaw, CoreOneLowerLaw, ThreeApproachesCase};
+ghost use Rattle.mp_controls.specs.Closer.{CloserDriftLaw, CloserBoundLaw, NotCloserTwoLower, WorkedStayLower};
+ghost use Rattle.mp_controls.specs.OneLower.{OneLowerLaw, NotFourLower, CoreOneLowerLaw, ThreeApproachesCase};
 ghost use Rattle.mp_controls.specs.Splits.{NotLinkSplitOneMore};
 ghost use Rattle.mp_controls.specs.Periods.{NotSharperPeriod};
 ghost use Rattle.mp_controls.specs.Order.{NotGreatestWithoutClosing};
@@ -46,6 +46,11 @@ pub fn closer_bound_law()
     ensures { CloserBoundLaw }
 {}
 
+/// Not every queue of a run is at most its closer bound less 2.
+pub fn closer_bound_control()
+    ensures { NotCloserTwoLower }
+{}
+
 /// By the closer bounds each queue of the worked networks is at most its bound less 1.
 pub fn worked_bounds_one_lower()
     ensures { WorkedStayLower }
@@ -56,7 +61,12 @@ pub fn one_lower_law()
     ensures { OneLowerLaw }
 {}
 
-/// Nor does one of the event core.
+/// In such networks not every queue is at most its bound less 4.
+pub fn four_lower_control()
+    ensures { NotFourLower }
+{}
+
+/// No queue of the event core reaches its bound there either.
 pub fn core_one_lower_law()
     ensures { CoreOneLowerLaw }
 {}
