@@ -1,15 +1,23 @@
 #!/bin/sh
 # Strengthens the statement of each law by one in a copy of the crates and checks that the law's own
-# proof is refused there: sh sharper.sh [LAW..]. Each line tells the edit and what the check said.
+# proof is refused there: sh sharper.sh [LAW..]. Each line tells the edit and what the check said. Ends
+# with 1 where one was proved, and with 2 where the check gave no answer or refuses the laws as they are.
 set -u
 here=$(cd "$(dirname "$0")" && pwd)
 copy=$(mktemp -d)
-mkdir "$copy/crates"
-cp -r "$here/../mp_model" "$here/../mp_laws" "$copy/crates"
+for crate in mp_model mp_laws; do
+    mkdir -p "$copy/crates/$crate"
+    (cd "$here/../$crate" && cp -r src specs proofs "$copy/crates/$crate")
+done
 printf 'mp_model:\nmp_laws: mp_model\n' > "$copy/crates.txt"
 cp "$here/../../HANDLES" "$copy"
 cd "$copy/crates/mp_laws" || exit 1
 cp -r specs proofs ..
+rt check > "$copy/log" 2>&1
+if ! grep -q '^logic=proved' "$copy/log"; then
+    echo "the laws are not proved as they stand: see $copy/log"
+    exit 2
+fi
 proved=0
 for edit in "$here"/sharper/*.edit; do
     name=$(basename "$edit" .edit)
@@ -32,8 +40,11 @@ for edit in "$here"/sharper/*.edit; do
     if grep -q "^fn mp_laws::$law: proved" "$copy/log"; then
         echo "$name: PROVED"
         proved=1
-    else
+    elif grep -q 'error:' "$copy/log"; then
         echo "$name: refused: $(grep -m 1 'error:' "$copy/log" | cut -c 1-160)"
+    else
+        echo "$name: no answer: see $copy/log"
+        exit 2
     fi
     rm -r specs proofs
     cp -r ../specs ../proofs .
