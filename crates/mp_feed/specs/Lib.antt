@@ -1,2 +1,4 @@
 pub mod Counts
+pub mod Fill
+pub mod Filled
 pub mod Table

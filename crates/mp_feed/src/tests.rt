@@ -124,3 +124,30 @@ fn splits_among_a_thousand(rt: HostRuntime) -> Result<(), Fail> {
     }
     Ok(())
 }
+
+// A burst of 2, and 1 vehicle in 4 periods: the level, a count, the room, whether the count is taken,
+// and the level after it.
+#[test]
+fn fills_a_bucket(rt: HostRuntime) {
+    for (level, count, room, taken, after) in [
+        (0, 3, 2, false, 0),
+        (0, 2, 2, true, 7),
+        (7, 1, 0, false, 7),
+        (7, 0, 0, true, 6),
+        (6, 0, 0, true, 5),
+        (5, 1, 1, true, 8),
+        (8, 1, 0, false, 8),
+        (0, 0, 2, true, 0),
+    ] {
+        let mut bucket = Bucket::new(4, 2, 1).at_level(level);
+        assert_eq!(rt; bucket.level(), level);
+        assert_eq!(rt; bucket.room(), room, "at {level}");
+        assert_eq!(rt; bucket.offer(count).is_ok(), taken, "{count} at {level}");
+        assert_eq!(rt; bucket.level(), after, "{count} at {level}");
+    }
+    let mut full = Bucket::at(3600, 10_000, 3_600_000, 36_000_000);
+    assert_eq!(rt; full.room(), 1000);
+    assert_eq!(rt; full.offer(999_999_999), Err(Above));
+    assert_eq!(rt; full.offer(1000), Ok(()));
+    assert_eq!(rt; full.level(), 36_000_000);
+}

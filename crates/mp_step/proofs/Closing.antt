@@ -12,6 +12,8 @@ use Rattle.mp_laws.proofs.Lists.{at_range}
 use Rattle.mp_laws.proofs.Order.{map-same}
 use Rattle.mp_press.specs.Written.{IsAmong}
 use Rattle.mp_press.proofs.Known.{kept_known, has_numbers, among}
+use Rattle.mp_feed.specs.Fill.{Fill}
+use Rattle.mp_step.specs.BucketLevels.{level_then}
 use Rattle.mp_step.specs.Standing.{Standing, moved, received, closed}
 use Rattle.mp_step.proofs.Following.{map-map}
 
@@ -44,22 +46,25 @@ module _ (net : Network) (st : Standing) (stages counts ph q p : List ℕ) (phs 
   pub departed_closed : sum_by (λ k. cond (goes_out net k) (entry p k) 0) (movement_numbers net) ≡ departing net stages (entry st.queues)
   departed_closed = sum_by-same_at _ _ (movement_numbers net) (each_in _ (movement_numbers net) (λ k h. ap (λ y. cond (goes_out net k) y 0) (passes_same k (among (length net.movements) k h))))
 
-abbrev standing : ℕ → List (List ℕ) → List ℕ → List ℕ → ℕ → ℕ → Standing
-standing period splits queues phases total_in total_out = record { queues = queues; phases = phases; period = period; total_in = total_in; total_out = total_out; splits = splits }
+abbrev standing : ℕ → List (List ℕ) → List Fill → List ℕ → List ℕ → List ℕ → ℕ → ℕ → Standing
+standing period splits buckets queues phases levels total_in total_out = record { queues = queues; phases = phases; levels = levels; period = period; total_in = total_in; total_out = total_out; splits = splits; buckets = buckets }
 
-standing_same : (period : ℕ) (splits : List (List ℕ)) (q q' ph ph' : List ℕ) (i i' o o' : ℕ) → q ≡ q' → ph ≡ ph' → i ≡ i' → o ≡ o' → standing period splits q ph i o ≡ standing period splits q' ph' i' o'
-standing_same period splits q q' ph ph' i i' o o' a b c d =
-    ap₂ (λ q ph. standing period splits q ph i o) a b ∙ ap₂ (λ i o. standing period splits q' ph' i o) c d
+standing_same : (period : ℕ) (splits : List (List ℕ)) (buckets : List Fill) (q q' ph ph' ls ls' : List ℕ) (i i' o o' : ℕ) → q ≡ q' → ph ≡ ph' → ls ≡ ls' → i ≡ i' → o ≡ o' →
+    standing period splits buckets q ph ls i o ≡ standing period splits buckets q' ph' ls' i' o'
+standing_same period splits buckets q q' ph ph' ls ls' i i' o o' a b c d e =
+    ap₂ (λ q ph. standing period splits buckets q ph ls i o) a b ∙ ap₂ (λ ls i. standing period splits buckets q' ph' ls i o) c d ∙ ap (standing period splits buckets q' ph' ls' i') e
 
 -- the lists and sums of a period make the standing after it
-pub closed_is : (net : Network) (st : Standing) (stages counts ph q p p' nq np : List ℕ) (i o : ℕ) → ph ≡ st.phases → q ≡ st.queues →
+pub closed_is : (net : Network) (st : Standing) (stages counts ph q p p' nq np nl ls : List ℕ) (i o : ℕ) → ph ≡ st.phases → q ≡ st.queues → ls ≡ st.levels →
     p ≡ map (passed net stages (entry st.queues)) (movement_numbers net) → p' ≡ map (passed net stages (entry st.queues)) (movement_numbers net) →
     nq ≡ map (moved net counts (entry ph) (entry q) (entry p)) (movement_numbers net) → np ≡ map (λ l. (entry ph l + received net counts (entry p) l) % net.shares) (link_numbers net) →
+    nl ≡ map (level_then net (entry ls) counts) (link_numbers net) →
     i ≡ sum_by (arrivals_of net counts) (link_numbers net) → o ≡ sum_by (λ k. cond (goes_out net k) (entry p' k) 0) (movement_numbers net) →
-    standing (st.period + 1) st.splits nq np (st.total_in + i) (st.total_out + o) ≡ closed net st stages counts
-closed_is net st stages counts ph q p p' nq np i o phs qs ps ps' nqs nps is os =
-    standing_same (st.period + 1) st.splits nq _ np _ (st.total_in + i) _ (st.total_out + o) _
+    standing (st.period + 1) st.splits st.buckets nq np nl (st.total_in + i) (st.total_out + o) ≡ closed net st stages counts
+closed_is net st stages counts ph q p p' nq np nl ls i o phs qs lss ps ps' nqs nps nls is os =
+    standing_same (st.period + 1) st.splits st.buckets nq _ np _ nl _ (st.total_in + i) _ (st.total_out + o) _
     (nqs ∙ queues_closed net st stages counts ph q p phs qs ps) (nps ∙ phases_closed net st stages counts ph q p phs qs ps)
+    (nls ∙ ap (λ ls. map (level_then net (entry ls) counts) (link_numbers net)) lss)
     (ap (λ n. st.total_in + n) is) (ap (λ n. st.total_out + n) (os ∙ departed_closed net st stages counts ph q p' phs qs ps'))
 
 -- a fact of each entry by its number is one of each element

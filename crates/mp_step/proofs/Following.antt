@@ -1,11 +1,11 @@
 -- A period from the phases is the step of each state that the run stands at.
-use Rattle.std.proofs.Common.{◌≡◌, ◌≤◌, ◌<◌, ℕ, zero, suc, ◌+◌, ◌-◌, ◌%◌, List, [], ◌∷◌, length, map, replicate, sum, sum_by, pos, arith, refl, sym, ◌∙◌, ap}
+use Rattle.std.proofs.Common.{◌≡◌, ◌≤◌, ◌<◌, ℕ, zero, suc, ◌+◌, ◌-◌, ◌*◌, ◌%◌, List, None, [], ◌∷◌, length, map, replicate, sum, sum_by, pos, arith, refl, sym, ◌∙◌, ap, subst}
 use Rattle.std.specs.List.{AllByRecursion, range_with_len}
 use Rattle.std.proofs.Math.Nat.{mod-add-mod, zero-mod}
 use Rattle.std.proofs.lemmas.List.{length-map, length-replicate}
 use Rattle.std.proofs.lemmas.List.FromFn.{length-range_with_len}
 use Rattle.std.proofs.lemmas.List.Sums.{sum-map, sum_by-cons}
-use Rattle.mp_model.specs.Network.{Network, movement_numbers, link_numbers, numbers_to, from_of, entry}
+use Rattle.mp_model.specs.Network.{Network, movement_numbers, link_numbers, link_at, numbers_to, from_of, entry}
 use Rattle.mp_model.specs.NetworkRules.{IsNetwork}
 use Rattle.mp_model.specs.Arrivals.{arrivals_of}
 use Rattle.mp_model.specs.Step.{State, queue, received_by, passed, got, new_queue, departing, step}
@@ -16,7 +16,10 @@ use Rattle.mp_laws.proofs.Order.{joined_same, map-same}
 use Rattle.mp_laws.proofs.Conserved.{step_conserves}
 use Rattle.mp_press.specs.Queues.{naturals, NoneNegative}
 use Rattle.mp_press.proofs.Writes.{numbers_by_all}
+use Rattle.mp_feed.specs.Fill.{Fill}
 use Rattle.mp_step.proofs.Stages.{get_or-replicate}
+use Rattle.mp_step.proofs.Above.{then_within}
+use Rattle.mp_step.specs.BucketLevels.{level_then, first_above, buckets_of}
 use Rattle.mp_step.specs.Standing.{Standing, splits_of, IsOn, Stands, as_state, closed}
 
 pub map-map : (f g : ℕ → ℕ) (xs : List ℕ) → map f (map g xs) ≡ map (λ x. f (g x)) xs
@@ -53,17 +56,25 @@ stands_after net ok st stages counts state s =
 below : (n w : ℕ) → 1 ≤ w → n % w < w
 below n w h = omega arith
 
-pub on_after : (net : Network) → IsNetwork net → (st : Standing) (stages counts : List ℕ) → IsOn net st → IsOn net (closed net st stages counts)
-on_after net ok st stages counts on =
+queues_after : (net : Network) (st : Standing) (stages counts : List ℕ) → length (closed net st stages counts).queues ≡ length net.movements
+queues_after net st stages counts = length-map (movement_numbers net) _ ∙ length-range_with_len 1 (length net.movements)
+
+pub on_after : (net : Network) → IsNetwork net → (st : Standing) (stages counts : List ℕ) → IsOn net st → first_above net (entry st.levels) counts ≡ None → IsOn net (closed net st stages counts)
+on_after net ok st stages counts on none =
     let r : ℕ → ℕ = λ l. entry st.phases l + got net stages (entry st.queues) (arrivals_of net counts) l in
     record {
-      queues = length-map (movement_numbers net) _ ∙ length-range_with_len 1 (length net.movements);
+      queues = queues_after net st stages counts;
       phases = length-map (map r (link_numbers net)) (λ n. n % net.shares) ∙ length-map (link_numbers net) r ∙ length-range_with_len 1 (length net.links);
       phase_in = each_in (λ l. entry (closed net st stages counts).phases l < net.shares) (link_numbers net) (λ l h.
           let e = at_in (λ l. entry (closed net st stages counts).phases l ≡ r l % net.shares) l (link_numbers net) h (phase_after net st stages counts) in
           let b = below (r l) net.shares ok.shares in
           omega arith);
+      levels = length-map (link_numbers net) (level_then net (entry st.levels) counts) ∙ length-range_with_len 1 (length net.links);
+      within = each_in (λ l. entry (closed net st stages counts).levels l ≤ net.per * (link_at net l).burst) (link_numbers net) (λ l h.
+          subst (λ n. n ≤ net.per * (link_at net l).burst) (sym (numbered (level_then net (entry st.levels) counts) (length net.links) l h))
+          (at_in (λ l. level_then net (entry st.levels) counts l ≤ net.per * (link_at net l).burst) l (link_numbers net) h (then_within net (entry st.levels) counts on.within none)));
       splits = on.splits;
+      buckets = on.buckets;
     }
 
 sum_numbers : (xs : List ℕ) (n : ℕ) → length xs ≡ n → sum_by (entry xs) (numbers_to n) ≡ sum xs
@@ -78,7 +89,7 @@ closed_conserves net ok st stages counts on before =
     omega (
       arith,
       step_conserves net ok stages (arrivals_of net counts) (as_state st) (omega (arith, sum_numbers st.queues m on.queues)),
-      sum_numbers after.queues m (on_after net ok st stages counts on).queues,
+      sum_numbers after.queues m (queues_after net st stages counts),
     )
 
 -- a list of zeros has 0 at each number
@@ -94,24 +105,32 @@ pub opening_queues : (n : ℕ) → naturals (replicate n (pos 0)) ≡ map (λ k.
 opening_queues n = no_queues n ∙ zeros 0 1 n
 
 -- a run opens where nothing is queued and nothing was received
-pub opens : (net : Network) → IsNetwork net → (qs ps : List ℕ) (splits : List (List ℕ)) → qs ≡ map (λ k. 0) (movement_numbers net) → ps ≡ replicate (length net.links) 0 → splits ≡ splits_of net →
-    IsOn net (record { queues = qs; phases = ps; period = 0; total_in = 0; total_out = 0; splits = splits }) × Stands net (record { queues = qs; phases = ps; period = 0; total_in = 0; total_out = 0; splits = splits }) (opening net)
-opens net ok qs ps splits q p s =
-    let none : (l : ℕ) → entry ps l ≡ 0 = λ l. ap (λ xs. entry xs l) p ∙ get_or-replicate (length net.links) (l - 1) in (
-      record {
-        queues = ap length q ∙ length-map (movement_numbers net) (λ k. 0) ∙ length-range_with_len 1 (length net.movements);
-        phases = ap length p ∙ length-replicate {A = ℕ} (length net.links) 0;
-        phase_in = each_in (λ l. entry ps l < net.shares) (link_numbers net) (λ l h. omega (arith, none l, ok.shares));
-        splits = s;
-      },
-      record {
-        queues = q;
-        phases = each_in _ (link_numbers net) (λ l h. none l ∙ sym (ap (λ n. n % net.shares) (numbered (λ l. 0) (length net.links) l h) ∙ zero-mod net.shares));
-        period = refl;
-        total_in = refl;
-        total_out = refl;
-      },
-    )
+abbrev pub opened : List ℕ → List ℕ → List ℕ → List (List ℕ) → List Fill → Standing
+opened qs ps ls splits buckets = record { queues = qs; phases = ps; levels = ls; period = 0; total_in = 0; total_out = 0; splits = splits; buckets = buckets }
+
+pub no_entries : (xs : List ℕ) (n : ℕ) → xs ≡ replicate n 0 → (l : ℕ) → entry xs l ≡ 0
+no_entries xs n e l = ap (λ xs. entry xs l) e ∙ get_or-replicate n (l - 1)
+
+pub opens : (net : Network) → IsNetwork net → (qs ps ls : List ℕ) (splits : List (List ℕ)) (buckets : List Fill) → qs ≡ map (λ k. 0) (movement_numbers net) → ps ≡ replicate (length net.links) 0 → ls ≡ replicate (length net.links) 0 →
+    splits ≡ splits_of net → buckets ≡ buckets_of net → IsOn net (opened qs ps ls splits buckets) × Stands net (opened qs ps ls splits buckets) (opening net)
+opens net ok qs ps ls splits buckets q p v s b = (
+  record {
+    queues = ap length q ∙ length-map (movement_numbers net) (λ k. 0) ∙ length-range_with_len 1 (length net.movements);
+    phases = ap length p ∙ length-replicate {A = ℕ} (length net.links) 0;
+    phase_in = each_in (λ l. entry ps l < net.shares) (link_numbers net) (λ l h. omega (arith, no_entries ps (length net.links) p l, ok.shares));
+    levels = ap length v ∙ length-replicate {A = ℕ} (length net.links) 0;
+    within = each_in (λ l. entry ls l ≤ net.per * (link_at net l).burst) (link_numbers net) (λ l h. omega (arith, no_entries ls (length net.links) v l));
+    splits = s;
+    buckets = b;
+  },
+  record {
+    queues = q;
+    phases = each_in _ (link_numbers net) (λ l h. no_entries ps (length net.links) p l ∙ sym (ap (λ n. n % net.shares) (numbered (λ l. 0) (length net.links) l h) ∙ zero-mod net.shares));
+    period = refl;
+    total_in = refl;
+    total_out = refl;
+  },
+)
 
 -- queues of 0
 pub zeros_positive : (n : ℕ) → NoneNegative (replicate n (pos 0))

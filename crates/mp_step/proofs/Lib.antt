@@ -1,5 +1,7 @@
 pub mod Stages
 pub mod Moves
 pub mod Signs
+pub mod Above
+pub mod Taking
 pub mod Closing
 pub mod Following

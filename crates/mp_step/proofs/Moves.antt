@@ -1,5 +1,5 @@
 -- What a period does at a link.
-use Rattle.std.proofs.Common.{◌≡◌, ◌==◌, ◌≤◌, ◌<◌, ℕ, zero, suc, ◌+◌, ◌-◌, ◌&&◌, Bool, true, false, cond, min, List, [], ◌∷◌, length, get_or, set, drop, map, sum, sum_by, slice_index, None, Some, nat_lt, arith, refl, sym, ◌∙◌, ap, ap₂, eqb-true, eq-eqb, ne_eqb, add-one, drop-cons, ⊎_elim, not}
+use Rattle.std.proofs.Common.{◌≡◌, ◌==◌, ◌≤◌, ◌<◌, ℕ, zero, suc, ◌+◌, ◌-◌, ◌^◌, ◌&&◌, Bool, true, false, cond, min, List, [], ◌∷◌, length, get_or, set, drop, map, sum, sum_by, slice_index, None, Some, nat_lt, arith, refl, sym, ◌∙◌, ap, ap₂, eqb-true, eq-eqb, ne_eqb, add-one, drop-cons, ⊎_elim, not}
 use Rattle.std.specs.List.{AllByRecursion, IsDistinct, All, range_with_len, position, position_or_len}
 use Rattle.std.proofs.lemmas.Bool.{cases_lt, false≢true, ltb-false}
 use Rattle.std.proofs.lemmas.List.{length-map, get_or-map}
@@ -15,13 +15,13 @@ use Rattle.mp_laws.proofs.Lists.{each_in, at_in, all_in, has_filter}
 use Rattle.mp_laws.proofs.Lists.{at_range, in_range}
 use Rattle.mp_laws.proofs.Lists.{filter_has}
 use Rattle.mp_laws.proofs.Places.{split-map}
-use Rattle.mp_model.specs.Arrivals.{count_in}
-use Rattle.mp_model.specs.Network.{Network, has, numbers_to, movement_numbers, from_of, share_of, flow_of, out_of, entry}
+use Rattle.mp_model.specs.Arrivals.{count_in, arrivals_of}
+use Rattle.mp_model.specs.Network.{Network, has, numbers_to, movement_numbers, from_of, share_of, flow_of, out_of, fed, entry}
 use Rattle.mp_model.specs.NetworkRules.{IsNetwork}
 use Rattle.mp_model.specs.Pressure.{positive_weight}
 use Rattle.mp_model.specs.Split.{split_counts, credit_of, first_greatest}
 use Rattle.mp_model.specs.Step.{passed, joined, has_green}
-use Rattle.mp_press.proofs.Among.{absent_at}
+use Rattle.mp_press.proofs.Among.{absent_at, count_few}
 use Rattle.mp_press.proofs.Known.{has_numbers}
 use Rattle.mp_press.specs.Written.{written, IsAmong}
 use Rattle.mp_step.specs.Settled.{settled}
@@ -79,6 +79,10 @@ settled_more q y ks parts xs i k h l e v is =
 pub settled-map : (q y : List ℕ) (g : ℕ → ℕ) (ks xs : List ℕ) → settled q y ks (map g ks) xs ≡ written (λ k. entry q k - entry y k + g k) ks xs
 settled-map q y g [] xs = refl
 settled-map q y g (k ∷ ks) xs = settled-map q y g ks (set xs (k - 1) (entry q k - entry y k + g k))
+
+-- the arrivals on a link have at most 9 digits
+pub came_few : (net : Network) (counts : List ℕ) (l : ℕ) → All (λ a. a < 10 ^ 9) counts → arrivals_of net counts l < 10 ^ 9
+came_few net counts l h = let few = count_few (fed net) counts l (10 ^ 9 - 1) (λ i d lt. let one = h i d lt in omega arith) in omega arith
 
 -- shares that agree at the elements give the same split
 split_agree : (total : ℕ) (w v : ℕ → ℕ) (ks : List ℕ) → AllByRecursion (λ k. w k ≡ v k) ks → (n : ℕ) → AllByRecursion (λ k. split_counts total w ks n k ≡ split_counts total v ks n k) ks

@@ -1,3 +1,5 @@
+pub mod BucketLevels
 pub mod Standing
 pub mod Settled
 pub mod StateView
+pub mod Taken

@@ -1,11 +1,12 @@
 //! Where a run stands, and one period of it.
 #![tactic(auto)]
 
+mod levels;
 mod moving;
 mod passing;
 mod state;
 
-pub use state::State;
+pub use state::{AboveAt, State};
 
 #[cfg(test)]
 mod tests;

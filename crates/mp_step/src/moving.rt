@@ -14,8 +14,8 @@ use mp_feed::Splitter;
 use mp_net::{LinkNo, MovementNo, Net};
 use mp_press::queue_of;
 
-// The arrivals on a link.
-fn arrivals_on(net: &Net, arrivals: &[u64], l: LinkNo) -> u64
+/// The arrivals on a link.
+pub fn arrivals_on(net: &Net, arrivals: &[u64], l: LinkNo) -> u64
     requires known { (1 ≤ l) × (l ≤ length net.now.links) }
     requires counts { HasCounts net.now arrivals.now }
     ensures { result ≡ arrivals_of net.now arrivals.now l }

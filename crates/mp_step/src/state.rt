@@ -1,26 +1,36 @@
 // Where a run stands.
-ghost use Rattle.std.specs.Prelude.{◌≡◌, ◌≤◌, ◌<◌, ◌+◌, ◌^◌, ℕ, [], ◌∷◌, ◌++◌, All, IfOk, OnOk, map, pos, length, sum};
-ghost use Rattle.mp_model.specs.Network.{entry};
+ghost use Rattle.std.specs.Prelude.{◌≡◌, ◌≤◌, ◌<◌, ◌+◌, ◌^◌, ℕ, List, [], ◌∷◌, ◌++◌, All, None, Some, IfOk, IfErr, OnOk, OnErr, map, pos, length, sum};
+ghost use Rattle.mp_model.specs.Network.{Network, entry};
 ghost use Rattle.mp_model.specs.Arrivals.{arrivals_of, HasCounts};
 ghost use Rattle.mp_model.specs.Step.{State as StateOfModel, AreStages, step};
 ghost use Rattle.mp_model.specs.Run.{opening};
+ghost use Rattle.mp_laws.specs.Buckets.{IsFirstAbove};
 ghost use Rattle.mp_press.specs.Queues.{naturals, AreCounts};
+ghost use Rattle.mp_step.specs.BucketLevels.{first_above, IsRoom};
 ghost use Rattle.mp_step.specs.Standing.{Stands, IsOn, closed, shares_in, splits_of};
+ghost use Rattle.mp_step.specs.Taken.{HasTaken};
 
+use crate::levels::{levels_after, make_buckets, room_at};
 use crate::moving::move_all;
 use crate::passing::{departed, serve_all};
-use mp_feed::{NoMemory, Splitter};
+use mp_feed::{Bucket, NoMemory, Splitter};
 use mp_net::{LinkNo, MovementNo, Net, StageNo};
 use mp_press::queue_of;
 use std::alloc::{AllocError, Global};
 use std::marker::Model;
 use std::mem;
 
-/// Where a run stands: the queue of each movement, the phase of each link, the period, and how many
-/// vehicles entered and departed.
+/// The arrivals of a period would put this link above its bucket, and no link of lower number.
+#[derive(Clone, Copy, Debug, PartialEq, Eq)]
+pub struct AboveAt {
+    pub link: LinkNo,
+}
+
+/// Where a run stands: the queue of each movement, the phase and the bucket level of each link, the
+/// period, and how many vehicles entered and departed.
 ///
-/// A period writes the next queues and phases beside those of now, and then swaps them, so it takes
-/// no memory: all buffers are made at the opening.
+/// A period writes the next queues, phases and levels beside those of now, and then swaps them, so it
+/// takes no memory: all buffers are made at the opening. A refused period doesn't swap.
 #[derive(Drop)]
 pub struct State {
     period: u64,
@@ -28,9 +38,13 @@ pub struct State {
     next_queues: Vec<i128>,
     phases: Vec<u32>,
     next_phases: Vec<u32>,
+    levels: Vec<u64>,
+    next_levels: Vec<u64>,
     total_in: u128,
     total_out: u128,
     splits: Vec<Splitter>,
+    // The empty bucket of each link; its level stands in `levels`.
+    buckets: Vec<Bucket>,
     // What each movement passes, and how what a link received is split.
     passes: Vec<u32>,
     parts: Vec<u64>,
@@ -48,10 +62,12 @@ impl Model for State {
 }
 
 impl State {
-    /// The opening of a run: period 0, nothing queued and nothing received.
+    /// The opening of a run: period 0, nothing queued, nothing received, and each bucket empty.
+    /// `NoMemory` comes only for want of memory.
     pub fn empty(alloc: Global, net: &Net) -> Result<State, NoMemory>
         ensures on { IfOk result (λ s. IsOn net.now s) }
         ensures opening { IfOk result (λ s. Stands net.now s (opening net.now)) }
+        ensures taken { IfOk result (λ s. HasTaken net.now s []) }
     {
         let _ = net.shares();
         let movements = usize::from(net.movements());
@@ -62,9 +78,12 @@ impl State {
             next_queues: vec![in alloc; 0i128; movements]?,
             phases: vec![in alloc; 0u32; links]?,
             next_phases: vec![in alloc; 0u32; links]?,
+            levels: vec![in alloc; 0u64; links]?,
+            next_levels: vec![in alloc; 0u64; links]?,
             total_in: 0,
             total_out: 0,
             splits: make_splits(alloc, net)?,
+            buckets: make_buckets(alloc, net)?,
             passes: vec![in alloc; 0u32; movements]?,
             parts: vec![in alloc; 0u64; movements]?,
         })
@@ -114,24 +133,49 @@ impl State {
         self.total_out
     }
 
+    /// The greatest count of arrivals that the bucket of the link takes in the next period.
+    pub fn room(&self, l: LinkNo) -> u64
+        requires { (1 ≤ l) × (l ≤ length self.now.levels) }
+        ensures { (net : Network) → IsOn net self.now → IsRoom net (entry self.now.levels) l result }
+    {
+        room_at(&self.buckets, &self.levels, usize::from(l) - 1)
+    }
+
     /// One period in which the junctions show these stages, one per junction, and these many vehicles
     /// arrive, one count of at most 9 digits per fed link.
     ///
     /// A movement of a shown stage with a positive weight passes the lesser of its flow and its queue,
     /// by the queues before the period; each link receives its arrivals and what passes into it, and
     /// splits that among its movements from its phase on.
-    pub fn close(&mut self, net: &Net, stages: &[StageNo], arrivals: &[u64])
+    ///
+    /// `AboveAt` comes exactly where some fed link would be above its bucket: it names the least, and
+    /// the state stays as it was.
+    pub fn close(&mut self, net: &Net, stages: &[StageNo], arrivals: &[u64]) -> Result<(), AboveAt>
         requires on { IsOn net.now self.old }
         requires stages { AreStages net.now.junctions stages.now }
         requires counts { HasCounts net.now arrivals.now }
         requires digits { All (λ a. a < 10 ^ 9) arrivals.now }
         requires period { self.old.period < 2 ^ 48 }
-        ensures closed { self.new ≡ closed net.now self.old stages.now arrivals.now }
-        ensures step { (state : StateOfModel) → Stands net.now self.old state → Stands net.now self.new (step net.now stages.now (arrivals_of net.now arrivals.now) state) }
+        ensures above { IfErr result (λ above. first_above net.now (entry self.old.levels) arrivals.now ≡ Some above.link) }
+        ensures excess { IfErr result (λ above. (A : List (List ℕ)) → HasTaken net.now self.old A → IsFirstAbove net.now A arrivals.now above.link) }
+        ensures stays { OnErr result (self.new ≡ self.old) }
+        ensures within { OnOk result (first_above net.now (entry self.old.levels) arrivals.now ≡ None) }
+        ensures taken { OnOk result ((A : List (List ℕ)) → HasTaken net.now self.old A → HasTaken net.now self.new (A ++ arrivals.now ∷ [])) }
+        ensures closed { OnOk result (self.new ≡ closed net.now self.old stages.now arrivals.now) }
+        ensures step { OnOk result ((state : StateOfModel) → Stands net.now self.old state → Stands net.now self.new (step net.now stages.now (arrivals_of net.now arrivals.now) state)) }
+        ensures period { OnOk result (self.new.period ≡ self.old.period + 1) }
         ensures on { IsOn net.now self.new }
-        ensures period { self.new.period ≡ self.old.period + 1 }
     {
         let _ = net.shares();
+        if let Some(link) = levels_after(
+            net,
+            &self.buckets,
+            &self.levels,
+            arrivals,
+            &mut self.next_levels,
+        ) {
+            return Err(AboveAt { link });
+        }
         serve_all(net, stages, &self.queues, &mut self.passes);
         let came = move_all(
             net,
@@ -147,9 +191,11 @@ impl State {
         let left = departed(net, &self.passes);
         mem::swap(&mut self.queues, &mut self.next_queues);
         mem::swap(&mut self.phases, &mut self.next_phases);
+        mem::swap(&mut self.levels, &mut self.next_levels);
         self.period += 1;
         self.total_in += u128::from(came);
         self.total_out += u128::from(left);
+        Ok(())
     }
 }
 

@@ -4,7 +4,7 @@ ghost use Rattle.mp_press.specs.Presses.{CanWeigh};
 ghost use Rattle.mp_press.specs.Queues.{AreCounts};
 ghost use Rattle.mp_step.specs.Standing.{IsOn};
 
-use crate::State;
+use crate::{AboveAt, State};
 use arrayvec::ArrayVec;
 use mp_net::{JunctionPart, LinkPart, MovementPart, Name, Net, NetParts, StageNo, build};
 use mp_press::{choose, choose_all, weight};
@@ -70,7 +70,7 @@ fn network(
         alloc,
         NetParts {
             shares,
-            per: 40,
+            per: 4,
             links: links(alloc, bursts)?,
             movements: movements(alloc, rows)?,
             junctions: junctions(alloc, stages)?,
@@ -104,7 +104,7 @@ fn lines(rt: &impl Abort, alloc: Global, net: &Net, rows: &[&[u64]]) -> Result<S
         assert!(rt; is_line(net, counts));
         assert!(rt; state.period() < 1 << 48);
         choose_all(net, state.queues(), &mut stages);
-        state.close(net, &stages, counts);
+        assert_eq!(rt; state.close(net, &stages, counts), Ok(()));
         let line = format!(in alloc;
             "{:?} {:?} {} {}\n",
             stages.as_slice(),
@@ -167,6 +167,101 @@ fn periods_of_the_worked_networks(rt: HostRuntime) -> Result<(), Fail> {
     Ok(())
 }
 
+// The period, the queues, how many entered and departed, and the room of each link.
+fn shown(alloc: Global, net: &Net, state: &State) -> Result<String, Fail>
+    requires { IsOn net.now state.now }
+{
+    let mut text = format!(in alloc;
+        "{} {:?} {} {}",
+        state.period(),
+        state.queues(),
+        state.total_in(),
+        state.total_out()
+    )?;
+    for i in 0..net.links() {
+        let room = format!(in alloc; " {}", state.room(i + 1))?;
+        text.push_str(room.as_str())?;
+    }
+    Ok(text)
+}
+
+// Periods with these arrivals: the link that is named as above its bucket, or 0 where the period is
+// closed, and what the state then shows.
+fn closes(
+    rt: &impl Abort,
+    alloc: Global,
+    net: &Net,
+    rows: &[(&[u64], u16, &str)],
+) -> Result<(), Fail> {
+    let mut state = opening(alloc, net)?;
+    let mut stages: ArrayVec<StageNo, 64> = ArrayVec::new();
+    for (counts, link, wanted) in rows {
+        assert!(rt; is_line(net, counts));
+        assert!(rt; state.period() < 1 << 48);
+        choose_all(net, state.queues(), &mut stages);
+        let above = match state.close(net, &stages, counts) {
+            Ok(()) => 0,
+            Err(AboveAt { link }) => link,
+        };
+        assert_eq!(rt; above, *link, "{wanted}");
+        assert_eq!(rt; shown(alloc, net, &state)?.as_str(), *wanted);
+    }
+    Ok(())
+}
+
+// A burst of 2 on each of two links, and 1 vehicle in 4 periods.
+#[test]
+fn periods_within_buckets(rt: HostRuntime) -> Result<(), Fail> {
+    let alloc = rt.alloc();
+    let net = network(
+        alloc,
+        1,
+        &[2, 2],
+        &[(1, 0, 1, 2), (2, 0, 1, 2)],
+        &[&[&[1], &[2]]],
+    )?;
+    closes(
+        &rt,
+        alloc,
+        &net,
+        &[
+            (&[3, 0], 1, "0 [0, 0] 0 0 2 2"),
+            (&[2, 1], 0, "1 [2, 1] 3 0 0 1"),
+        ],
+    )?;
+    closes(
+        &rt,
+        alloc,
+        &net,
+        &[
+            (&[2, 0], 0, "1 [2, 0] 2 0 0 2"),
+            (&[1, 0], 1, "1 [2, 0] 2 0 0 2"),
+        ],
+    )?;
+    closes(
+        &rt,
+        alloc,
+        &net,
+        &[
+            (&[2, 0], 0, "1 [2, 0] 2 0 0 2"),
+            (&[0, 0], 0, "2 [0, 0] 2 2 0 2"),
+            (&[0, 0], 0, "3 [0, 0] 2 2 1 2"),
+            (&[1, 0], 0, "4 [1, 0] 3 2 0 2"),
+        ],
+    )?;
+    closes(
+        &rt,
+        alloc,
+        &net,
+        &[
+            (&[0, 3], 2, "0 [0, 0] 0 0 2 2"),
+            (&[3, 3], 1, "0 [0, 0] 0 0 2 2"),
+            (&[0, 2], 0, "1 [0, 2] 2 0 2 0"),
+        ],
+    )?;
+    Ok(())
+}
+
 // A state after one period with these arrivals on the one fed link.
 fn after(rt: &impl Abort, alloc: Global, net: &Net, count: u64) -> Result<State, Fail> {
     let mut state = opening(alloc, net)?;
@@ -175,7 +270,7 @@ fn after(rt: &impl Abort, alloc: Global, net: &Net, count: u64) -> Result<State,
     assert!(rt; is_line(net, &counts));
     assert!(rt; state.period() < 1 << 48);
     choose_all(net, state.queues(), &mut stages);
-    state.close(net, &stages, &counts);
+    assert_eq!(rt; state.close(net, &stages, &counts), Ok(()));
     Ok(state)
 }
 
@@ -200,7 +295,7 @@ fn weights_by_own_and_next(rt: HostRuntime) -> Result<(), Fail> {
     let net = network(
         alloc,
         2,
-        &[1],
+        &[20],
         &[(1, 1, 1, 2), (1, 0, 1, 2)],
         &[&[&[1], &[2]]],
     )?;

@@ -1,13 +1,11 @@
-use Rattle.std.proofs.Common.{◌≡◌, ◌≤◌, ◌<◌, ◌+◌, ◌-◌, ◌%◌, ◌^◌, ◌∙◌, sym, ap, ap₂, arith, get_or, set, length, ℕ, List, sum_by, refl, slice_index, ◌==◌}
+use Rattle.std.proofs.Common.{◌≡◌, ◌≤◌, ◌+◌, ◌-◌, ◌%◌, ◌^◌, ◌∙◌, sym, ap, ap₂, arith, get_or, set, length, ℕ, sum_by, refl, slice_index, ◌==◌}
 use Rattle.std.specs.Prelude.{unsigned_abs}
 use Rattle.std.proofs.lemmas.List.{length-map}
 use Rattle.std.proofs.lemmas.List.Edits.{fill_by_more}
-use Rattle.std.specs.List.{All}
 use Rattle.mp_model.specs.Arrivals.{arrivals_of}
-use Rattle.mp_model.specs.Network.{Network, out_of, into_link, from_of, fed, entry}
+use Rattle.mp_model.specs.Network.{out_of, into_link, from_of, entry}
 use Rattle.mp_model.specs.Step.{joined}
-use Rattle.mp_step.proofs.Moves.{rows_count, row_at}
-use Rattle.mp_press.proofs.Among.{count_few}
+use Rattle.mp_step.proofs.Moves.{came_few, rows_count, row_at}
 use Rattle.mp_press.proofs.Known.{from_known, kept_known}
 use Rattle.mp_press.proofs.Sums.{numbers_step}
 use Rattle.mp_press.proofs.Writes.{entry-written, numbers_by_all}
@@ -25,9 +23,6 @@ loop-i-init c = record {
   queues = λ k h l e. absurd (omega (arith, from_known c.args.net.now c.requires.acceptable.network k (h, l)));
   phases = λ j h. absurd (omega arith);
 }
-
-came_few : (net : Network) (counts : List ℕ) (l : ℕ) → All (λ a. a < 10 ^ 9) counts → arrivals_of net counts l < 10 ^ 9
-came_few net counts l h = let few = count_few (fed net) counts l (10 ^ 9 - 1) (λ i d lt. let one = h i d lt in omega arith) in omega arith
 
 pub overflow_add-sum : goal.overflow_add-sum
 overflow_add-sum c = let few = came_few c.args.net.now c.args.arrivals.now (c.loop-i.i + 1) c.requires.digits in omega arith

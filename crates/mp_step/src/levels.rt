@@ -1,0 +1,83 @@
+// The bucket levels after a period.
+ghost use Rattle.std.specs.Prelude.{◌≡◌, ◌≤◌, ◌<◌, ◌+◌, ◌*◌, ◌^◌, All, IsNone, IfSome, IfOk, OnOk, [], ◌∷◌, ◌++◌, length, map};
+ghost use Rattle.std.specs.List.{AllByRecursion};
+ghost use Rattle.mp_model.specs.Network.{Network, link_numbers, link_at, entry};
+ghost use Rattle.mp_model.specs.Arrivals.{HasCounts, next_level};
+ghost use Rattle.mp_step.specs.BucketLevels.{buckets_of, level_then, first_above, AreWithin, IsRoom};
+
+use crate::moving::arrivals_on;
+use mp_feed::{Above, Bucket, NoMemory};
+use mp_net::{LinkNo, Net};
+use std::alloc::{AllocError, Global};
+
+// The level after so many arrivals, or none where it would be above the bucket.
+fn level_after(bucket: &Bucket, level: u64, came: u64) -> Option<u64>
+    requires level { level ≤ bucket.now.per * bucket.now.burst }
+    requires digits { came < 10 ^ 9 }
+    ensures some { IfSome result (λ next. (next ≡ next_level bucket.now.per bucket.now.rate level came) × (next ≤ bucket.now.per * bucket.now.burst)) }
+    ensures none { IsNone result → bucket.now.per * bucket.now.burst < next_level bucket.now.per bucket.now.rate level came }
+{
+    let mut bucket = bucket.at_level(level);
+    match bucket.offer(came) {
+        Ok(()) => Some(bucket.level()),
+        Err(Above) => None,
+    }
+}
+
+/// Writes the next levels, or answers the least link that would be above its bucket.
+pub fn levels_after(
+    net: &Net,
+    buckets: &[Bucket],
+    levels: &[u64],
+    arrivals: &[u64],
+    next: &mut [u64],
+) -> Option<LinkNo>
+    requires counts { HasCounts net.now arrivals.now }
+    requires digits { All (λ a. a < 10 ^ 9) arrivals.now }
+    requires buckets { buckets.now ≡ buckets_of net.now }
+    requires levels { length levels.now ≡ length net.now.links }
+    requires within { AllByRecursion (λ l. entry levels.now l ≤ net.now.per * (link_at net.now l).burst) (link_numbers net.now) }
+    requires next_size { length next.old ≡ length net.now.links }
+    ensures above { result ≡ first_above net.now (entry levels.now) arrivals.now }
+    ensures value { IsNone result → next.new ≡ map (level_then net.now (entry levels.now) arrivals.now) (link_numbers net.now) }
+{
+    for i in 0..net.links() {
+        let at = usize::from(i);
+        let came = arrivals_on(net, arrivals, i + 1);
+        let Some(level) = level_after(&buckets[at], levels[at], came) else {
+            return Some(i + 1);
+        };
+        next[at] = level;
+    }
+    None
+}
+
+/// The greatest count of arrivals that the bucket at this place takes.
+pub fn room_at(buckets: &[Bucket], levels: &[u64], at: usize) -> u64
+    requires within { AreWithin buckets.now levels.now }
+    requires known { at < length buckets.now }
+    ensures { (net : Network) → buckets.now ≡ buckets_of net → IsRoom net (entry levels.now) (at + 1) result }
+{
+    buckets[at].at_level(levels[at]).room()
+}
+
+fn add_bucket(buckets: &mut Vec<Bucket>, bucket: Bucket) -> Result<(), AllocError>
+    ensures { OnOk result (buckets.new.items ≡ buckets.old.items ++ bucket ∷ []) }
+{
+    buckets.push(bucket)?;
+    Ok(())
+}
+
+/// The empty bucket of each link.
+pub fn make_buckets(alloc: Global, net: &Net) -> Result<Vec<Bucket>, NoMemory>
+    ensures { IfOk result (λ v. v.items ≡ buckets_of net.now) }
+{
+    let _ = net.shares();
+    let mut buckets = Vec::with_capacity(alloc, usize::from(net.links()))?;
+    for i in 0..net.links() {
+        let link = net.link(i + 1);
+        let bucket = Bucket::new(net.per(), link.burst, link.rate);
+        add_bucket(&mut buckets, bucket)?;
+    }
+    Ok(buckets)
+}
