@@ -6,3 +6,4 @@ pub mod Game
 pub mod Vector
 pub mod Mixes
 pub mod Verdict
+pub mod Worst

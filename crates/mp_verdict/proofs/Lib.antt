@@ -1,0 +1,11 @@
+pub mod Plain
+pub mod Combined
+pub mod Facts
+pub mod Capacity
+pub mod Vector
+pub mod Reduce
+pub mod Signed
+pub mod Duality
+pub mod Falls
+pub mod Carrying
+pub mod Alone
