@@ -9,3 +9,5 @@ pub mod Duality
 pub mod Falls
 pub mod Carrying
 pub mod Alone
+pub mod VectorLaw
+pub mod FlowNumbers

@@ -7,3 +7,4 @@ pub mod Vector
 pub mod Mixes
 pub mod Verdict
 pub mod Worst
+pub mod VectorLaws
