@@ -11,3 +11,10 @@ pub mod Carrying
 pub mod Alone
 pub mod VectorLaw
 pub mod FlowNumbers
+pub mod Values
+pub mod Places
+pub mod Solved
+pub mod ListProgram
+pub mod LpLemmas
+pub mod Bounded
+pub mod Programs
