@@ -18,3 +18,6 @@ pub mod ListProgram
 pub mod LpLemmas
 pub mod Bounded
 pub mod Programs
+pub mod RatesAt
+pub mod Sound
+pub mod Playing
