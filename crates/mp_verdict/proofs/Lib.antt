@@ -21,3 +21,5 @@ pub mod Programs
 pub mod RatesAt
 pub mod Sound
 pub mod Playing
+pub mod Reaching
+pub mod Turns
