@@ -23,3 +23,6 @@ pub mod Sound
 pub mod Playing
 pub mod Reaching
 pub mod Turns
+pub mod StatedFlows
+pub mod Whole
+pub mod VectorOf

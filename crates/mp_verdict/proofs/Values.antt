@@ -1,5 +1,6 @@
 -- What a calculation gives where it doesn't pass.
 use Rattle.std.proofs.Common.{◌≡◌, ℕ, ℤ, pos, ◌+ℤ◌, ◌-ℤ◌, ◌*ℤ◌, ap₂, sym, ◌∙◌, List, [], ◌∷◌, sum_by, arith, refl, Option, Some}
+use Rattle.std.specs.List.{AllByRecursion}
 use Rattle.std.proofs.lemmas.Int.{ints}
 use Rattle.std.proofs.lemmas.Option.{option_and_then_some, same_Some}
 use Rattle.std.proofs.lemmas.List.Sums.{sum_by-cons}
@@ -42,17 +43,17 @@ pub gives-same : (a : Option ℤ) (v w : ℤ) → Gives a v → v ≡ w → Give
 gives-same a v w g e = record { at = λ z h. g.at z h ∙ e }
 
 -- a sum of terms that are natural numbers
-sum_from : (term : ℕ → Option ℤ) (t : ℕ → ℕ) → ((k : ℕ) → Gives (term k) (pos (t k))) → (ks : List ℕ) (s : ℤ) → Gives (run (added term) s ks) (s +ℤ pos (sum_by t ks))
+sum_from : (term : ℕ → Option ℤ) (t : ℕ → ℕ) (ks : List ℕ) (s : ℤ) → AllByRecursion (λ k. Gives (term k) (pos (t k))) ks → Gives (run (added term) s ks) (s +ℤ pos (sum_by t ks))
 unfolding run
-sum_from term t h [] s = gives-same _ _ _ (gives-some s) (omega (arith, ints))
-sum_from term t h (k ∷ ks) s = record {
+sum_from term t [] s h = gives-same _ _ _ (gives-some s) (omega (arith, ints))
+sum_from term t (k ∷ ks) s h = record {
   at = λ z e.
       option_and_then_some _ (plus (Some s) (term k)) z e (λ next hn e'.
-      (let first = (gives-plus (Some s) (term k) s (pos (t k)) (gives-some s) (h k)).at next hn in
-      let rest = (sum_from term t h ks next).at z e' in
+      (let first = (gives-plus (Some s) (term k) s (pos (t k)) (gives-some s) h.0).at next hn in
+      let rest = (sum_from term t ks next h.1).at z e' in
       omega (arith, ints, first, rest, sum_by-cons t k ks)));
 }
 
-pub gives-sum : (term : ℕ → Option ℤ) (t : ℕ → ℕ) → ((k : ℕ) → Gives (term k) (pos (t k))) → (ks : List ℕ) → Gives (sum_of term ks) (pos (sum_by t ks))
+pub gives-sum : (term : ℕ → Option ℤ) (t : ℕ → ℕ) (ks : List ℕ) → AllByRecursion (λ k. Gives (term k) (pos (t k))) ks → Gives (sum_of term ks) (pos (sum_by t ks))
 unfolding sum_of
-gives-sum term t h ks = gives-same _ _ _ (sum_from term t h ks (pos 0)) (omega (arith, ints))
+gives-sum term t ks h = gives-same _ _ _ (sum_from term t ks (pos 0) h) (omega (arith, ints))
