@@ -26,3 +26,7 @@ pub mod Turns
 pub mod StatedFlows
 pub mod Whole
 pub mod VectorOf
+pub mod Balance
+pub mod Carried
+pub mod Holders
+pub mod Certified
