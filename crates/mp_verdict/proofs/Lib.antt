@@ -30,3 +30,6 @@ pub mod Balance
 pub mod Carried
 pub mod Holders
 pub mod Certified
+pub mod StandingLaw
+pub mod RatesThere
+pub mod VerdictProof

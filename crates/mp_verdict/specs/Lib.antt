@@ -8,3 +8,4 @@ pub mod Mixes
 pub mod Verdict
 pub mod Worst
 pub mod VectorLaws
+pub mod Laws
