@@ -33,3 +33,4 @@ pub mod Certified
 pub mod StandingLaw
 pub mod RatesThere
 pub mod VerdictProof
+pub mod Handing

@@ -92,6 +92,7 @@ satisfied net ok flows are n l standing e =
     record {
       lowest = s.lowest;
       worst = (weights_of net standing, s.whole, s.worst);
+      values = s.values;
       carries = λ i some i'. carries_slack net flows are standing.slack s.lowest (junction_at net i) (s.carries i some i');
     }
 

@@ -37,7 +37,7 @@ use Rattle.mp_verdict.proofs.Sound.{IsSound}
 use Rattle.mp_verdict.proofs.Reaching.{then_reached, same_reached, at_place_reached, optimum_reached}
 
 -- the value and the denominator of the rates
-over_is : (rates : Rates) (o : Optimum) (over : Bool) → is_over rates o ≡ Some over → over ≡ int_lt (rates.d *ℤ o.value.den) o.value.num
+pub over_is : (rates : Rates) (o : Optimum) (over : Bool) → is_over rates o ≡ Some over → over ≡ int_lt (rates.d *ℤ o.value.den) o.value.num
 unfolding is_over
 over_is rates o over e = option_map_some _ (within (rates.d *ℤ o.value.den)) over e (λ most hm e'. e' ∙ ap (λ t. int_lt t o.value.num) (within_some _ most hm))
 
@@ -48,7 +48,7 @@ within_numbers S m D vd n some e le =
     let c : pos m *ℤ (pos D *ℤ pos vd) ≡ pos (m * (D * vd)) = ap (λ t. pos m *ℤ t) (mul_posℤ D vd) ∙ mul_posℤ m (D * vd) in
     cancel_le vd S (m * D) some (omega (arith, ints, a, b, c, e, mul_posℤ S vd))
 
-over_numbers : (S m D vd : ℕ) (n : ℤ) → 1 ≤ m → pos S *ℤ pos vd ≡ n *ℤ pos m → (pos D *ℤ pos vd) <ℤ n → m * D < S
+pub over_numbers : (S m D vd : ℕ) (n : ℤ) → 1 ≤ m → pos S *ℤ pos vd ≡ n *ℤ pos m → (pos D *ℤ pos vd) <ℤ n → m * D < S
 over_numbers S m D vd n some e lt =
     ⊎_elim (λ (h : m * D < S). h)
     (λ (h : S ≤ m * D).

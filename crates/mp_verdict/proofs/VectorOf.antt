@@ -61,7 +61,7 @@ module _ (net : Network) (ok : IsNetwork net) (st : Standing) (sign : AllByRecur
     pub at : (l : ℕ) → has (link_numbers net) l ≡ true → int_entry u l ≡ pos (sum_by (λ k. share_of net k * weights_of net st k) (out_of net l))
     pub signs : All (λ v. pos 0 ≤ℤ v) u
 
-  brought_is : (u : List ℤ) → link_values net (spread net st) ≡ Some u → IsBrought u
+  pub brought_is : (u : List ℤ) → link_values net (spread net st) ≡ Some u → IsBrought u
   unfolding link_values
   brought_is u e =
       let o = each_some (link_value net (spread net st)) (link_numbers net) u e in

@@ -38,10 +38,11 @@ pub record CarriesSlack (net : Network) (flows : Flows) (slack : Fraction) (j : 
 abbrev pub naturals : List ℤ → ℕ → ℕ
 naturals xs l = unsigned_abs (int_entry xs l)
 
--- A standing stands after the first n junctions where its slack is in lowest terms and is that of a worst junction, and each of these junctions carries it.
+-- A standing stands after the first n junctions where its slack is in lowest terms and is that of a worst junction, its values are at least 0, and each of these junctions carries the slack.
 pub record StandsAfter (net : Network) (flows : Flows) (n : ℕ) (standing : Standing) : Type 0 where
   pub lowest : IsLowest standing.slack.num standing.slack.den
   pub worst : (Z : ℕ → ℕ) × (z : ℕ) × IsWorst net (unsigned_abs flows.d) (naturals flows.rate) (naturals flows.unit) standing.junction Z z standing.slack.num (unsigned_abs standing.slack.den)
+  pub values : AllByRecursion (λ z. pos 0 ≤ℤ z) standing.values
   pub carries : (i : ℕ) → 1 ≤ i → i ≤ n → CarriesSlack net flows standing.slack (junction_at net i)
 
 -- Earlier junctions stay satisfied: the standing after the first n junctions is one whose slack all of them carry.
