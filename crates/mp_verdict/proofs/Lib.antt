@@ -34,3 +34,4 @@ pub mod StandingLaw
 pub mod RatesThere
 pub mod VerdictProof
 pub mod Handing
+pub mod Computed

@@ -9,3 +9,4 @@ pub mod Verdict
 pub mod Worst
 pub mod VectorLaws
 pub mod Laws
+pub mod WorkedVerdicts

@@ -3,6 +3,7 @@
 
 ghost use Rattle.mp_verdict.specs.Laws.{ApartLaw, BoundedLaw, CertifiedLaw, ExactLaw, MotionLaw, RatesLaw, SatisfiedLaw, VerdictLaw};
 ghost use Rattle.mp_verdict.specs.VectorLaws.{FactsLaw, SignLaw, VectorLaw};
+ghost use Rattle.mp_verdict.specs.WorkedVerdicts.{AreWorkedVerdicts};
 
 /// The five facts of the vector that shows a slack.
 pub fn facts_law()
@@ -57,4 +58,9 @@ pub fn apart_law()
 /// A verdict that holds of a network is the only one.
 pub fn exact_law()
     ensures { ExactLaw }
+{}
+
+/// The verdicts on the worked networks.
+pub fn worked_verdicts()
+    ensures { AreWorkedVerdicts }
 {}
