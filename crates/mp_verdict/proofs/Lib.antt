@@ -35,3 +35,4 @@ pub mod RatesThere
 pub mod VerdictProof
 pub mod Handing
 pub mod Computed
+pub mod TurnProof

@@ -59,7 +59,7 @@ over_numbers S m D vd n some e lt =
 
 module _ (net : Network) (ok : IsNetwork net) (flows : Flows) (are : AreFlows net flows) where
   -- the slack that an optimum's values give
-  next_slack : (j : Junction) (values : List ℤ) (den : ℤ) (a : Fraction) → AllByRecursion (λ z. pos 0 ≤ℤ z) values → pos 1 ≤ℤ den → 1 ≤ sum_by (values_of (own net j) values) (movement_numbers net) → slack_of net flows (own net j) values den ≡ Some a →
+  pub next_slack : (j : Junction) (values : List ℤ) (den : ℤ) (a : Fraction) → AllByRecursion (λ z. pos 0 ≤ℤ z) values → pos 1 ≤ℤ den → 1 ≤ sum_by (values_of (own net j) values) (movement_numbers net) → slack_of net flows (own net j) values den ≡ Some a →
       IsLowest a.num a.den × IsSlackOf net (d_of flows) (f_of flows) (g_of flows) (values_of (own net j) values) (unsigned_abs den) a.num (unsigned_abs a.den)
   unfolding slack_of
   next_slack j values den a all one some e =

@@ -10,3 +10,4 @@ pub mod Worst
 pub mod VectorLaws
 pub mod Laws
 pub mod WorkedVerdicts
+pub mod TurnLaws
