@@ -1,12 +1,11 @@
 -- Each turn lowers the slack and spends a turn.
-use Rattle.std.proofs.Common.{◌≡◌, ℕ, zero, suc, ◌+◌, ◌-◌, ◌*◌, ◌≤◌, ◌<◌, Bool, true, false, length, sum_by, ℤ, pos, ◌*ℤ◌, ◌≤ℤ◌, ◌<ℤ◌, int_lt, unsigned_abs, Some, arith, refl, sym, ◌∙◌, ap, subst}
+use Rattle.std.proofs.Common.{◌≡◌, ℕ, zero, suc, ◌-◌, ◌<◌, Bool, true, false, sum_by, ℤ, pos, ◌*ℤ◌, ◌<ℤ◌, unsigned_abs, Some, arith, refl, sym, ◌∙◌, ap, subst}
 use Rattle.std.proofs.lemmas.Int.{ints}
-use Rattle.mp_model.specs.Network.{Network, movement_numbers, junction_at, own}
-use Rattle.mp_model.specs.NetworkRules.{IsNetwork}
+use Rattle.mp_model.specs.Network.{Network, junction_at, own}
 use Rattle.mp_model.specs.Certificate.{int_entry}
 use Rattle.mp_num.specs.Fraction.{Fraction}
 use Rattle.mp_flow.specs.declared.network.Place.{Place}
-use Rattle.mp_flow.specs.Systems.{Flows, AreFlows}
+use Rattle.mp_flow.specs.Systems.{Flows}
 use Rattle.mp_simplex.specs.declared.Optimum.{Optimum}
 use Rattle.mp_simplex.specs.Outcome.{Optimal, maximised}
 use Rattle.mp_verdict.specs.Stated.{Stated, Reached, PassesAt, LimitAt, then, at_place}
