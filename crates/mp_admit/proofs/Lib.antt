@@ -1,3 +1,6 @@
+pub mod FaultLemmas
 pub mod TermLemmas
 pub mod PushLemmas
 pub mod RateLemmas
+pub mod RowLemmas
+pub mod ProgramLemmas

@@ -1,4 +1,5 @@
 //! The greatest slack of a network, with the certificate that has it and the vector that shows it.
 #![tactic(auto)]
 
+pub mod junction;
 pub mod rates;
