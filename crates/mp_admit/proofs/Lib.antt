@@ -4,3 +4,5 @@ pub mod PushLemmas
 pub mod RateLemmas
 pub mod RowLemmas
 pub mod ProgramLemmas
+pub mod SlackLemmas
+pub mod AloneLemmas

@@ -1,5 +1,7 @@
 //! The greatest slack of a network, with the certificate that has it and the vector that shows it.
 #![tactic(auto)]
 
+pub mod alone;
 pub mod junction;
 pub mod rates;
+pub mod standing;
