@@ -1,8 +1,11 @@
 pub mod FaultLemmas
 pub mod TermLemmas
 pub mod PushLemmas
+pub mod SlackLemmas
 pub mod RateLemmas
 pub mod RowLemmas
 pub mod ProgramLemmas
-pub mod SlackLemmas
 pub mod AloneLemmas
+pub mod SumLemmas
+pub mod TurnLemmas
+pub mod PlayLemmas

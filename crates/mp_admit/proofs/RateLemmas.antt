@@ -1,18 +1,22 @@
 -- The rates at a slack from their row.
-use Rattle.std.proofs.Common.{to_z-of_z, ◌≡◌, ℕ, ◌+◌, List, [], ◌∷◌, length, ℤ, Option, Some, None, Err, option_map, option_and_then, refl, ap, sym, ◌∙◌, arith, Bool, true, false}
+use Rattle.std.proofs.Common.{to_z-of_z, ◌≡◌, ℕ, zero, suc, ◌+◌, ◌≤◌, List, [], ◌∷◌, ◌++◌, length, ℤ, negsuc, ◌*ℤ◌, ◌≤ℤ◌, subst, Option, Some, None, Err, option_map, option_and_then, refl, ap, sym, ◌∙◌, arith, Bool, true, false}
 use Rattle.std.proofs.lemmas.List.{length-map}
 use Rattle.std.specs.Prelude.{if◌then◌else◌, ◌-◌, map, int_div, pos, nat_eq, nat_lt, ◌||◌, ◌^◌}
 use Rattle.mp_num.specs.Divisor.{divisor, divided, reduced}
 use Rattle.mp_num.specs.Fraction.{Fraction}
 use Rattle.mp_num.specs.Passing.{each}
 use Rattle.mp_model.specs.Network.{Network, movement_numbers}
-use Rattle.mp_flow.specs.Systems.{Flows}
+use Rattle.mp_flow.specs.Systems.{Flows, AreFlows}
 use Rattle.mp_flow.specs.declared.network.Place.{Place}
-use Rattle.mp_verdict.specs.Passing.{times}
+use Rattle.mp_verdict.specs.Passing.{times, num}
 use Rattle.mp_verdict.specs.Rates.{period_unit, need_at, rate_row, rates_in, rates_at, Rates}
 use Rattle.mp_verdict.specs.Stated.{Stated, Gives, Reached, PassesAt, at_place}
 use Rattle.mp_flow.specs.declared.network.CalcFault.{CalcFault}
+use Rattle.mp_num.specs.Row.{entry}
+use Rattle.mp_num.proofs.RowLemmas.{reduced_multiple}
+use Rattle.std.proofs.lemmas.Int.{ints}
 use Rattle.mp_admit.specs.Lists.{before}
+use Rattle.mp_admit.proofs.SlackLemmas.{Factors, factors, some_injective, product_sign}
 use Rattle.mp_admit.proofs.FaultLemmas.{fault_kept}
 
 pub length-reduced : (xs : List ℤ) → length (reduced xs) ≡ length xs
@@ -54,6 +58,40 @@ rates_reached place net flows slack whole excess row d e n = rw (d, e) (go (each
     go : (o : Option (List ℤ)) → at_place place (before (whole ∷ excess ∷ []) o) ≡ Reached row → at_place place (option_map (λ row. rates_in (reduced row)) (option_map (λ h. whole ∷ excess ∷ h) o)) ≡ Reached (rates_in (reduced row))
     go None n = cc
     go (Some h) n = let s : whole ∷ excess ∷ h ≡ row = cc in ap (λ (r : List ℤ). Reached (rates_in (reduced r))) s
+
+-- the denominator is at least 0
+part_sign : (g : ℕ) (x y : ℤ) → 1 ≤ g → x ≡ pos g *ℤ y → pos 0 ≤ℤ x → pos 0 ≤ℤ y
+part_sign zero x y h e s = absurd (omega arith)
+part_sign (suc g) x (pos n) h e s = omega (arith, ints)
+part_sign (suc g) x (negsuc n) h e s = absurd (omega (arith, ints, e, s))
+
+pub reduced_sign : (xs : List ℤ) (k : ℕ) → pos 0 ≤ℤ entry xs k → pos 0 ≤ℤ entry (reduced xs) k
+reduced_sign xs k h = let m = reduced_multiple xs in part_sign m.0 (entry xs k) (entry (reduced xs) k) m.1.above (m.1.at k) h
+
+pub whole_sign : (net : Network) (flows : Flows) (den v : ℤ) → AreFlows net flows → pos 1 ≤ℤ den → times (period_unit net flows) (Some den) ≡ Some v → pos 0 ≤ℤ v
+unfolding period_unit
+whole_sign net flows den v a h e =
+    let f = factors (times (times (num net.shares) (num net.per)) (Some flows.d)) (Some den) v e in
+    let g = factors (times (num net.shares) (num net.per)) (Some flows.d) f.left f.is_left in
+    let k = factors (num net.shares) (num net.per) g.left g.is_left in
+    let a1 : pos net.shares ≡ k.left = some_injective k.is_left in
+    let a2 : pos net.per ≡ k.right = some_injective k.is_right in
+    let a3 : flows.d ≡ g.right = some_injective g.is_right in
+    let a4 : den ≡ f.right = some_injective f.is_right in
+    let s1 : pos 0 ≤ℤ k.left = subst (λ (t : ℤ). pos 0 ≤ℤ t) a1 (omega (arith, ints)) in
+    let s2 : pos 0 ≤ℤ k.right = subst (λ (t : ℤ). pos 0 ≤ℤ t) a2 (omega (arith, ints)) in
+    let s3 : pos 0 ≤ℤ g.right = (let one = a.denominator in subst (λ (t : ℤ). pos 0 ≤ℤ t) a3 (omega (arith, ints, one))) in
+    let s4 : pos 0 ≤ℤ f.right = subst (λ (t : ℤ). pos 0 ≤ℤ t) a4 (omega (arith, ints, h)) in
+    let p1 : pos 0 ≤ℤ g.left = subst (λ (t : ℤ). pos 0 ≤ℤ t) (sym k.value) (product_sign k.left k.right s1 s2) in
+    let p2 : pos 0 ≤ℤ f.left = subst (λ (t : ℤ). pos 0 ≤ℤ t) (sym g.value) (product_sign g.left g.right p1 s3) in
+    subst (λ (t : ℤ). pos 0 ≤ℤ t) (sym f.value) (product_sign f.left f.right p2 s4)
+
+pub first_sign : (place : Place) (first row out : List ℤ) (whole excess : ℤ) (o : Option (List ℤ)) → first ≡ whole ∷ excess ∷ [] → pos 0 ≤ℤ whole → at_place place (before first o) ≡ Reached row → out ≡ reduced row → pos 0 ≤ℤ (rates_in out).d
+first_sign place first row out whole excess None f h e r = cc
+first_sign place first row out whole excess (Some ys) f h e r =
+    let e1 : first ++ ys ≡ row = cc in
+    let e2 : whole ∷ excess ∷ ys ≡ row = ap (λ (l : List ℤ). l ++ ys) (sym f) ∙ e1 in
+    subst (λ (l : List ℤ). pos 0 ≤ℤ entry l 0) (sym r) (reduced_sign row 0 (subst (λ (l : List ℤ). pos 0 ≤ℤ entry l 0) e2 h))
 
 pub ruleset rating = (to_z-of_z, length-reduced, rates_no_whole, rates_no_excess, rates_reached)
 

@@ -62,7 +62,7 @@ product_least (pos (suc a)) (pos b) h k = let e : suc a * b ≡ b + a * b = omeg
 product_least (pos (suc a)) (negsuc b) h k = absurd (omega (arith, ints, k))
 product_least (negsuc a) b h k = absurd (omega (arith, ints, h))
 
-some_injective : {x y : ℤ} → Some x ≡ Some y → x ≡ y
+pub some_injective : {x y : ℤ} → Some x ≡ Some y → x ≡ y
 some_injective e = cc
 
 unit_on : (net : Network) (flows : Flows) (k : ℕ) → IsNetwork net → AreFlows net flows → (1 ≤ k) × (k ≤ length net.movements) → pos 0 ≤ℤ int_entry flows.unit (from_of net k)

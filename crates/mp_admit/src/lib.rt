@@ -5,3 +5,4 @@ pub mod alone;
 pub mod junction;
 pub mod rates;
 pub mod standing;
+pub mod turns;

@@ -1,5 +1,5 @@
 //! What the movements of a network need at a slack.
-ghost use Rattle.std.specs.Prelude.{◌≡◌, ◌+◌, ◌≤◌, length, IfOk, vec_items};
+ghost use Rattle.std.specs.Prelude.{◌≡◌, ◌+◌, ◌≤◌, ◌≤ℤ◌, pos, length, IfOk, vec_items};
 ghost use Rattle.mp_model.specs.Network.{movement_numbers};
 ghost use Rattle.mp_model.specs.NetworkRules.{IsNetwork};
 ghost use Rattle.mp_num.specs.Divisor.{reduced};
@@ -134,7 +134,10 @@ pub fn rates_at(
     requires flows { AreFlows net.now (flows_of flows.now) }
     ensures calculation { Gives (λ row. rates_in row.items) result (at_place place (rates_at net.now (flows_of flows.now) slack.now)) }
     ensures size { IfOk result (λ row. length row.items ≡ 2 + length net.now.movements) }
+    ensures sign { IfOk result (λ row. pos 0 ≤ℤ (rates_in row.items).d) }
 {
+    // A fraction's denominator is positive.
+    let _den = slack.den();
     let Some(whole) = whole_at(net, flows, slack) else {
         return Err(CalcFault::Overflow(place));
     };
