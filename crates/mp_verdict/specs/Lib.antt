@@ -6,3 +6,6 @@ pub mod Game
 pub mod Vector
 pub mod Mixes
 pub mod Verdict
+pub mod Worst
+pub mod VectorLaws
+pub mod Laws
