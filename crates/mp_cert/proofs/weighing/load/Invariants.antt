@@ -1,0 +1,9 @@
+use Rattle.std.proofs.Common.{pos, length}
+use Rattle.mp_model.specs.Network.{numbers_to}
+use Rattle.mp_cert.specs.Passing.{added}
+use Rattle.mp_cert.specs.Weighing.{brought}
+use Rattle.mp_cert.proofs.RunLemmas.{Running}
+use Rattle.mp_cert.proofs.weighing.load.Given as goal
+
+abbrev pub invariant-loop-k : goal.invariant-loop-k
+invariant-loop-k l = Running (added (brought l.net l.p)) (pos 0) (numbers_to (length l.net.movements)) l.k l.sum

@@ -1,0 +1,32 @@
+-- Sums and products that may pass 128 bits; what has passed stays passed.
+use Rattle.std.specs.Prelude.{ℕ, ℤ, pos, ◌+ℤ◌, ◌-ℤ◌, ◌*ℤ◌, Bool, not, int_lt, List, Option, Some, option_map, option_and_then}
+use Rattle.mp_num.specs.Checked.{within}
+use Rattle.mp_num.specs.Passing.{run}
+
+-- This is the product of two numbers, where both are there.
+unfoldable pub times : Option ℤ → Option ℤ → Option ℤ
+times a b = option_and_then (λ x. option_and_then (λ y. within (x *ℤ y)) b) a
+
+-- This is the sum of two numbers, where both are there.
+unfoldable pub plus : Option ℤ → Option ℤ → Option ℤ
+plus a b = option_and_then (λ x. option_and_then (λ y. within (x +ℤ y)) b) a
+
+-- This is the first number less the second, where both are there.
+unfoldable pub less : Option ℤ → Option ℤ → Option ℤ
+less a b = option_and_then (λ x. option_and_then (λ y. within (x -ℤ y)) b) a
+
+-- A natural number is there.
+abbrev pub num : ℕ → Option ℤ
+num n = Some (pos n)
+
+-- A sum takes in the term of x, which is formed just before.
+abbrev pub added : {X : Type 0} → (X → Option ℤ) → ℤ → X → Option ℤ
+added term sum x = plus (Some sum) (term x)
+
+-- The sum of the terms of a list begins at 0.
+unfoldable pub summed : {X : Type 0} → (X → Option ℤ) → List X → Option ℤ
+summed term xs = run (added term) (pos 0) xs
+
+-- A number is at most another, where both are there.
+unfoldable pub at_most : Option ℤ → Option ℤ → Option Bool
+at_most a b = option_and_then (λ x. option_map (λ y. not (int_lt y x)) b) a
