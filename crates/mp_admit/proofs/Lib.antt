@@ -9,3 +9,8 @@ pub mod AloneLemmas
 pub mod SumLemmas
 pub mod TurnLemmas
 pub mod PlayLemmas
+pub mod GameLemmas
+pub mod SpreadLemmas
+pub mod VectorLemmas
+pub mod MixLemmas
+pub mod VerdictLemmas

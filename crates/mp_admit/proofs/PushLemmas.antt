@@ -57,3 +57,16 @@ numbering_size f n old t now s h i = omega (arith, s.push.size)
 pub ruleset numbering = (to_z-of_z, numbering_start, numbering_more, numbering_fails, numbering_end, numbering_size)
 
 pub ruleset pushing = (to_z-of_z, pushing_start, pushing_more, pushing_fails, pushing_end)
+
+-- the same from nothing
+before_nil : (o : Option (List ℤ)) → before [] o ≡ o
+before_nil None = refl
+before_nil (Some ys) = refl
+
+pub filling_fails : (place : Place) (f : ℕ → Option ℤ) (n t : ℕ) (now : List ℤ) → Numbering f n [] t now → t < n → f (t + 1) ≡ None → at_place place (each f (numbers_to n)) ≡ PassesAt place
+filling_fails place f n t now s h v = ap (at_place place) (sym (before_nil (each f (numbers_to n)))) ∙ numbering_fails place f n [] t now s h v
+
+pub filling_end : (place : Place) (f : ℕ → Option ℤ) (n t : ℕ) (now : List ℤ) → Numbering f n [] t now → n ≤ t → at_place place (each f (numbers_to n)) ≡ Reached now
+filling_end place f n t now s h = ap (at_place place) (sym (before_nil (each f (numbers_to n)))) ∙ numbering_end place f n [] t now s h
+
+pub ruleset filling = (to_z-of_z, numbering_start, numbering_more, filling_fails, filling_end)
