@@ -30,9 +30,13 @@ pub enum Verdict {
         slack: Frac,
     },
     /// The network carries its rates with nothing to spare: the vector loads it with just what it can serve.
-    Critical { against: Against },
+    Critical {
+        against: Against,
+    },
     /// The network does not carry its rates: the vector loads it with more than it can serve.
-    Overloaded { against: Against },
+    Overloaded {
+        against: Against,
+    },
 }
 
 /// The verdict by the sign of the slack; only above 0 there is a certificate.

@@ -157,7 +157,12 @@ fn told(alloc: Global, net: &Net) -> Result<String, Fail> {
                 let line = format!(in alloc; " mix {} {:?}", mix.whole, mix.parts.as_slice())?;
                 text.push_str(line.as_str())?;
             }
-            let line = format!(in alloc; " against {:?} slack {}/{}", against.p.as_slice(), slack.num(), slack.den())?;
+            let line = format!(in alloc;
+                " against {:?} slack {}/{}",
+                against.p.as_slice(),
+                slack.num(),
+                slack.den()
+            )?;
             text.push_str(line.as_str())?;
             text
         }
