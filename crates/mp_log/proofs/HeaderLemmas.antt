@@ -1,9 +1,8 @@
 -- The lines of a header by their numbers.
-use Rattle.std.proofs.Common.{◌≡◌, ◌<◌, ◌≤◌, ℕ, suc, ◌+◌, ◌-◌, List, [], ◌∷◌, length, map, get_or, refl, ap, sym, ◌∙◌, arith}
-use Rattle.std.specs.List.{range_with_len}
+use Rattle.std.proofs.Common.{◌≡◌, ◌≤◌, ℕ, suc, ◌+◌, ◌-◌, List, [], length, map, get_or, ap, ◌∙◌, arith}
 use Rattle.std.proofs.lemmas.List.{ext_get_or}
 use Rattle.std.proofs.lemmas.List.FromFn.{get_or-map-range_with_len, length-map-range_with_len}
-use Rattle.mp_model.specs.Network.{Network, numbers_to, movement_numbers}
+use Rattle.mp_model.specs.Network.{Network, numbers_to}
 use Rattle.mp_model.specs.Log.{bound_line, header_lines}
 use Rattle.mp_log.specs.Heading.{header_line}
 

@@ -1,5 +1,5 @@
 -- The header line by line.
-use Rattle.std.specs.Prelude.{◌≡◌, ◌-◌, ℕ, ℤ, List, [], map, slice_index_or, unsigned_abs}
+use Rattle.std.specs.Prelude.{◌-◌, ℕ, ℤ, List, [], map, slice_index_or, unsigned_abs}
 use Rattle.mp_model.specs.Network.{Network}
 use Rattle.mp_model.specs.Log.{header_lines}
 use Rattle.mp_num.specs.Fraction.{Fraction}
