@@ -1,0 +1,4 @@
+pub mod Limits
+pub mod Loops
+pub mod Fitting
+pub mod Finding

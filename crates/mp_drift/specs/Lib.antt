@@ -1,0 +1,4 @@
+pub mod Flows
+pub mod Constants
+pub mod Stated
+pub mod Bounded
