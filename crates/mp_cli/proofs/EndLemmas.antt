@@ -15,7 +15,7 @@ use Rattle.mp_netfile.specs.Meaning.{file_meaning}
 use Rattle.mp_cli.specs.declared.command.Command.{Command}
 use Rattle.mp_cli.specs.declared.command.Command.TheVariants.{Run, Show}
 use Rattle.mp_cli.specs.declared.outcome.Outcome.{Outcome}
-use Rattle.mp_cli.specs.declared.outcome.Outcome.TheVariants.{Done, Words, Store, Network as BadNetwork, Long, Grammar, LineLimit, Read, Write, NoMemory}
+use Rattle.mp_cli.specs.declared.outcome.Outcome.TheVariants.{Done, Words, Store, Network as BadNetwork, Long, Grammar, Above, LineLimit, Read, Write, NoMemory}
 use Rattle.mp_cli.specs.Statuses.{status_of}
 use Rattle.mp_cli.specs.Messages.{message_of}
 use Rattle.mp_cli.specs.Ends.{head, OfNetwork, Means, Reports}
@@ -61,6 +61,7 @@ run_means Write files name net left rest was now opened is = of_network files na
 run_means LineLimit files name net left rest was now opened is = (refl, of_network files name net (λ n. RunMeans LineLimit n left rest was now) opened is)
 run_means (Long n) files name net left rest was now opened is = (refl, of_network files name net (λ m. RunMeans (Long n) m left rest was now) opened is)
 run_means (Grammar n) files name net left rest was now opened is = (refl, of_network files name net (λ m. RunMeans (Grammar n) m left rest was now) opened is)
+run_means (Above n p l) files name net left rest was now opened is = (refl, of_network files name net (λ m. RunMeans (Above n p l) m left rest was now) opened is)
 run_means NoMemory files name net left rest was now opened is = is
 run_means Words files name net left rest was now opened is = absurd is
 run_means Store files name net left rest was now opened is = absurd is
@@ -74,6 +75,7 @@ show_means Read files name net left was now opened is = absurd is
 show_means LineLimit files name net left was now opened is = absurd is
 show_means (Long n) files name net left was now opened is = absurd is
 show_means (Grammar n) files name net left was now opened is = absurd is
+show_means (Above n p l) files name net left was now opened is = absurd is
 show_means Words files name net left was now opened is = absurd is
 show_means Store files name net left was now opened is = absurd is
 show_means (BadNetwork r s) files name net left was now opened is = absurd is
@@ -87,6 +89,7 @@ refusal_means Done command files name left was is = absurd is
 refusal_means Words command files name left was is = absurd is
 refusal_means (Long n) command files name left was is = absurd is
 refusal_means (Grammar n) command files name left was is = absurd is
+refusal_means (Above n p l) command files name left was is = absurd is
 refusal_means LineLimit command files name left was is = absurd is
 refusal_means Read command files name left was is = absurd is
 refusal_means Write command files name left was is = absurd is
@@ -107,6 +110,7 @@ zero_done Store is = absurd (omega arith)
 zero_done (BadNetwork r s) is = absurd (omega arith)
 zero_done (Long n) is = absurd (omega arith)
 zero_done (Grammar n) is = absurd (omega arith)
+zero_done (Above n p l) is = absurd (omega arith)
 zero_done LineLimit is = absurd (omega arith)
 zero_done Read is = absurd (omega arith)
 zero_done Write is = absurd (omega arith)
@@ -119,6 +123,7 @@ one_words Store is = absurd (omega arith)
 one_words (BadNetwork r s) is = absurd (omega arith)
 one_words (Long n) is = absurd (omega arith)
 one_words (Grammar n) is = absurd (omega arith)
+one_words (Above n p l) is = absurd (omega arith)
 one_words LineLimit is = absurd (omega arith)
 one_words Read is = absurd (omega arith)
 one_words Write is = absurd (omega arith)
@@ -131,6 +136,7 @@ two_store Words is = absurd (omega arith)
 two_store (BadNetwork r s) is = absurd (omega arith)
 two_store (Long n) is = absurd (omega arith)
 two_store (Grammar n) is = absurd (omega arith)
+two_store (Above n p l) is = absurd (omega arith)
 two_store LineLimit is = absurd (omega arith)
 two_store Read is = absurd (omega arith)
 two_store Write is = absurd (omega arith)
@@ -144,6 +150,7 @@ ten_read Store is = absurd (omega arith)
 ten_read (BadNetwork r s) is = absurd (omega arith)
 ten_read (Long n) is = absurd (omega arith)
 ten_read (Grammar n) is = absurd (omega arith)
+ten_read (Above n p l) is = absurd (omega arith)
 ten_read LineLimit is = absurd (omega arith)
 ten_read Write is = absurd (omega arith)
 ten_read NoMemory is = absurd (omega arith)
@@ -156,6 +163,7 @@ eleven_write Store is = absurd (omega arith)
 eleven_write (BadNetwork r s) is = absurd (omega arith)
 eleven_write (Long n) is = absurd (omega arith)
 eleven_write (Grammar n) is = absurd (omega arith)
+eleven_write (Above n p l) is = absurd (omega arith)
 eleven_write LineLimit is = absurd (omega arith)
 eleven_write Read is = absurd (omega arith)
 eleven_write NoMemory is = absurd (omega arith)
@@ -168,3 +176,4 @@ run_ends end.Write net left rest was now ends = ends
 run_ends end.LineLimit net left rest was now ends = ends
 run_ends (end.Long n) net left rest was now ends = ends
 run_ends (end.Grammar n) net left rest was now ends = ends
+run_ends (end.Above n p l) net left rest was now ends = ends

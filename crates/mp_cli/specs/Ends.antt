@@ -5,11 +5,11 @@ use Rattle.mp_model.specs.Network.{Network}
 use Rattle.mp_model.specs.Log.{first_line, text_of}
 use Rattle.mp_model.specs.Stream.LineKind.{long_line, bad_line}
 use Rattle.mp_netfile.specs.Meaning.{text_meaning, file_meaning}
-use Rattle.mp_run.specs.Running.{Finished, RefusedAt, HasTooMany, StopsReading, StopsWriting}
+use Rattle.mp_run.specs.Running.{Finished, RefusedAt, RefusedAbove, HasTooMany, StopsReading, StopsWriting}
 use Rattle.mp_cli.specs.declared.command.Command.{Command}
 use Rattle.mp_cli.specs.declared.command.Command.TheVariants.{Run, Show, Unknown}
 use Rattle.mp_cli.specs.declared.outcome.Outcome.{Outcome}
-use Rattle.mp_cli.specs.declared.outcome.Outcome.TheVariants.{Done, Words, Store, Network as BadNetwork, Long, Grammar, LineLimit, Read, Write, NoMemory}
+use Rattle.mp_cli.specs.declared.outcome.Outcome.TheVariants.{Done, Words, Store, Network as BadNetwork, Long, Grammar, Above, LineLimit, Read, Write, NoMemory}
 use Rattle.mp_cli.specs.Commands.{command_of, name_of}
 use Rattle.mp_cli.specs.Statuses.{status_of}
 use Rattle.mp_cli.specs.Messages.{message_of}
@@ -55,6 +55,7 @@ Means Store command files name left rest was now = IsUntouched left rest was now
 Means (BadNetwork rule spot) command files name left rest was now = OfFile files name (λ bytes. file_meaning bytes ≡ Err (rule, spot)) × IsUntouched left rest was now
 Means (Long n) command files name left rest was now = (command ≡ Run) × OfNetwork files name (λ net. RefusedAt net head long_line n left rest was now)
 Means (Grammar n) command files name left rest was now = (command ≡ Run) × OfNetwork files name (λ net. RefusedAt net head bad_line n left rest was now)
+Means (Above n p l) command files name left rest was now = (command ≡ Run) × OfNetwork files name (λ net. RefusedAbove net head n p l left rest was now)
 Means LineLimit command files name left rest was now = (command ≡ Run) × OfNetwork files name (λ net. HasTooMany net head left rest was now)
 Means Read command files name left rest was now = (command ≡ Run) × OfNetwork files name (λ net. StopsReading net head left rest was now)
 Means Write command files name left rest was now = IsCutShort command files name left rest was now

@@ -6,7 +6,7 @@ use Rattle.mp_net.specs.declared.fault.Section.{Section}
 use Rattle.mp_net.specs.declared.fault.Section.TheVariants.{Top, Link, Movement, Junction}
 use Rattle.mp_net.specs.declared.fault.Spot.{Spot}
 use Rattle.mp_cli.specs.declared.outcome.Outcome.{Outcome}
-use Rattle.mp_cli.specs.declared.outcome.Outcome.TheVariants.{Done, Words, Store, Network, Long, Grammar, LineLimit, Read, Write, NoMemory}
+use Rattle.mp_cli.specs.declared.outcome.Outcome.TheVariants.{Done, Words, Store, Network, Long, Grammar, Above, LineLimit, Read, Write, NoMemory}
 
 -- This is the number of a rule of the network file.
 abbrev pub rule_number : NetRule → ℕ
@@ -45,6 +45,7 @@ plain_message Words = codes "words\n"
 plain_message (Network rule spot) = ((codes "network N" ++ decimal (rule_number rule)) ++ spot_text spot) ++ codes "\n"
 plain_message (Long n) = (codes "line " ++ decimal n) ++ codes " long\n"
 plain_message (Grammar n) = (codes "line " ++ decimal n) ++ codes " grammar\n"
+plain_message (Above n p l) = (((((codes "line " ++ decimal n) ++ codes " above period ") ++ decimal p) ++ codes " link ") ++ decimal l) ++ codes "\n"
 plain_message LineLimit = codes "lines\n"
 plain_message Read = codes "read\n"
 plain_message Write = codes "write\n"
@@ -58,6 +59,7 @@ message_of name Words = plain_message Words
 message_of name (Network rule spot) = plain_message (Network rule spot)
 message_of name (Long n) = plain_message (Long n)
 message_of name (Grammar n) = plain_message (Grammar n)
+message_of name (Above n p l) = plain_message (Above n p l)
 message_of name LineLimit = plain_message LineLimit
 message_of name Read = plain_message Read
 message_of name Write = plain_message Write

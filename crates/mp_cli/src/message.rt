@@ -73,6 +73,18 @@ fn push_message(line: &mut LineSink, outcome: Outcome)
             push_number(line, number);
             push_text(line, b" grammar");
         }
+        Outcome::Above {
+            line: number,
+            period,
+            link,
+        } => {
+            push_text(line, b"line ");
+            push_number(line, number);
+            push_text(line, b" above period ");
+            push_number(line, period);
+            push_text(line, b" link ");
+            push_number(line, link);
+        }
         Outcome::LineLimit => push_text(line, b"lines"),
         Outcome::Read => push_text(line, b"read"),
         Outcome::Write => push_text(line, b"write"),

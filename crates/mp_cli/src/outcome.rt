@@ -2,7 +2,7 @@
 ghost use Rattle.std.specs.Prelude.{◌≡◌};
 ghost use Rattle.mp_cli.specs.Statuses.{status_of};
 
-use mp_net::{NetRule, Spot};
+use mp_net::{LinkNo, NetRule, Spot};
 
 /// How a command ends.
 #[derive(Clone, Copy, Debug, PartialEq, Eq)]
@@ -14,11 +14,25 @@ pub enum Outcome {
     /// The store met a fault.
     Store,
     /// The network file breaks the rule first, there.
-    Network { rule: NetRule, spot: Spot },
+    Network {
+        rule: NetRule,
+        spot: Spot,
+    },
     /// The line of the stream has more than 2,048 bytes.
-    Long { line: u64 },
+    Long {
+        line: u64,
+    },
     /// The line of the stream is not in the grammar.
-    Grammar { line: u64 },
+    Grammar {
+        line: u64,
+    },
+    /// The line of the stream gives the arrivals of this period, the first in which some link does not
+    /// keep to its bucket; the link is the least one.
+    Above {
+        line: u64,
+        period: u64,
+        link: LinkNo,
+    },
     /// The stream has more than 2^48 lines.
     LineLimit,
     /// The input met a fault.
@@ -39,6 +53,7 @@ pub fn status_of(outcome: Outcome) -> u8
         Outcome::Store => 2,
         Outcome::Network { .. } => 3,
         Outcome::Long { .. } | Outcome::Grammar { .. } => 7,
+        Outcome::Above { .. } => 8,
         Outcome::LineLimit => 9,
         Outcome::Read => 10,
         Outcome::Write => 11,

@@ -4,7 +4,7 @@ ghost use Rattle.mp_edge.specs.Outside.{Rose, Tells};
 ghost use Rattle.mp_cli.specs.Commands.{command_of, name_of};
 ghost use Rattle.mp_cli.specs.Ends.{OfNetwork, IsUntouched, Means, Does, IsCutShort, Reports, IsEnd};
 ghost use Rattle.mp_cli.specs.Acts.{outcome_of, RunMeans, ShowMeans};
-ghost use Rattle.mp_cli.specs.Complete.{IsGoodFile, IsGoodStream};
+ghost use Rattle.mp_cli.specs.Complete.{IsGoodFile, IsGoodStream, IsExcessiveStream};
 ghost use Rattle.mp_cli.specs.Opening.{IsRefusal};
 
 use crate::command::{Command, command_of};
@@ -60,6 +60,7 @@ fn outcome_of(end: RunEnd) -> Outcome
         RunEnd::LineLimit => Outcome::LineLimit,
         RunEnd::Long { line } => Outcome::Long { line },
         RunEnd::Grammar { line } => Outcome::Grammar { line },
+        RunEnd::Above { line, period, link } => Outcome::Above { line, period, link },
     }
 }
 
@@ -137,9 +138,10 @@ fn name_of(words: &[String]) -> &str
 /// `run NET` writes the log of the run of the stream on `input`; `show NET` writes the network as a
 /// file. Every status but 0 has its line on `err`, whose faults are ignored: 1 for words that are not
 /// listed, 2 for a fault of the store, 3 for the first rule that the network file breaks, 7 for the
-/// first line of the stream that is too long or not in the grammar, 9 for more than 2^48 lines, 10
-/// for a fault of the input, 11 for one of the output, and 12 for want of memory, which comes before
-/// the first byte is put.
+/// first line of the stream that is too long or not in the grammar, 8 for the first period of the
+/// stream in which some link does not keep to its bucket, 9 for more than 2^48 lines, 10 for a fault of
+/// the input, 11 for one of the output, and 12 for want of memory, which comes before the first byte is
+/// put.
 pub fn top<St: Store, In: Source, Out: Sink, Er: Sink>(
     alloc: Global,
     words: &[String],
@@ -161,11 +163,15 @@ pub fn top<St: Store, In: Source, Out: Sink, Er: Sink>(
     ensures read { result ≡ 10 → Rose (In.faults input.old) (In.faults input.new) }
     ensures write { result ≡ 11 → Rose (Out.faults out.old) (Out.faults out.new) }
 
-    // Where nothing is wrong outside, all is done, or memory was wanting.
+    // Where nothing is wrong outside, all is done, the stream is refused as above a bucket, or memory was wanting.
     ensures complete_run { command_of (map string_bytes words.now) ≡ Command.Run →
         (file : IsGoodFile (St.files store.old) (name_of (map string_bytes words.now))) → IsGoodStream file.net (In.left input.old) →
         ¬ Rose (St.faults store.old) (St.faults store.new) → ¬ Rose (In.faults input.old) (In.faults input.new) → ¬ Rose (Out.faults out.old) (Out.faults out.new) →
         (result ≡ 0) ⊎ (result ≡ 12) }
+    ensures complete_above { command_of (map string_bytes words.now) ≡ Command.Run →
+        (file : IsGoodFile (St.files store.old) (name_of (map string_bytes words.now))) → IsExcessiveStream file.net (In.left input.old) →
+        ¬ Rose (St.faults store.old) (St.faults store.new) → ¬ Rose (In.faults input.old) (In.faults input.new) → ¬ Rose (Out.faults out.old) (Out.faults out.new) →
+        (result ≡ 8) ⊎ (result ≡ 12) }
     ensures complete_show { command_of (map string_bytes words.now) ≡ Command.Show →
         IsGoodFile (St.files store.old) (name_of (map string_bytes words.now)) →
         ¬ Rose (St.faults store.old) (St.faults store.new) → ¬ Rose (Out.faults out.old) (Out.faults out.new) →

@@ -287,6 +287,46 @@ fn answers_faults(rt: HostRuntime) -> Result<(), Fail> {
     )
 }
 
+// The first period in which a link does not keep to its bucket ends the run, before its line is put.
+#[test]
+fn holds_arrivals_to_buckets(rt: HostRuntime) -> Result<(), Fail> {
+    let alloc = rt.alloc();
+    let run: &[&str] = &["run", "two-links"];
+    let tandem: &[&str] = &["run", "fed-tandem"];
+    let two = "maxpressure 1\np 1 a 2 0 s 1 q 2 0\n";
+    let three = "maxpressure 1\np 1 a 1 3 s 1 1 q 1 3\n";
+    let equal =
+        "maxpressure 1\np 1 a 2 0 s 1 q 2 0\np 2 a 0 0 s 1 q 0 0\np 3 a 0 0 s 1 q 0 0\np 4 a 1 0 s 1 q 1 0\nend 4 in 3 out 2 queued 1\n";
+    let cases: [(&[&str], &[u8], u8, &str, &str); 7] = [
+        (run, b"3,0\n", 8, FIRST, "line 1 above period 1 link 1\n"),
+        (run, b"3,3", 8, FIRST, "line 1 above period 1 link 1\n"),
+        (run, b"0,3\n", 8, FIRST, "line 1 above period 1 link 2\n"),
+        (run, b"2,0\n1,0\n", 8, two, "line 2 above period 2 link 1\n"),
+        (
+            run,
+            b"# c\n2,0\n\n1,0\n1\n",
+            8,
+            two,
+            "line 4 above period 2 link 1\n",
+        ),
+        (run, b"2,0\n0,0\n0,0\n1,0\n", 0, equal, ""),
+        (
+            tandem,
+            b"1,3\n0,1\n",
+            8,
+            three,
+            "line 2 above period 2 link 2\n",
+        ),
+    ];
+    for (words, stream, status, out, err) in cases {
+        check(&rt, alloc, &call(words, stream), status, out, err)?;
+    }
+    let mut unwritten = call(run, b"3,0\n");
+    unwritten.write_fails = &[(2, 1)];
+    let above = "line 1 above period 1 link 1\n";
+    check(&rt, alloc, &unwritten, 8, FIRST, above)
+}
+
 // Forty periods of the corridor; a model apart from this code gives the totals.
 #[test]
 fn runs_the_corridor(rt: HostRuntime) -> Result<(), Fail> {

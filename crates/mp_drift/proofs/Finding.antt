@@ -7,7 +7,7 @@ use Rattle.std.proofs.lemmas.Bool.{cases_lt}
 use Rattle.std.proofs.lemmas.List.Elements.{All-from_recursion, All-head, All-tail}
 use Rattle.mp_model.specs.Network.{Network, movement_numbers}
 use Rattle.mp_model.specs.Bounds.{drift_constant, queue_threshold, greatest_drift, queue_bound, IsRoot, AreBounds, HasRoom}
-use Rattle.mp_drift.specs.Stated.{fitting, unit_of, credit_sum, threshold_from, greatest_from, stated_greatest}
+use Rattle.mp_drift.specs.Stated.{fitting, unit_of, credit_sum, threshold_from, greatest_from}
 use Rattle.mp_drift.specs.Bounded.{IsFound}
 use Rattle.mp_drift.proofs.Fitting.{fitting_is}
 

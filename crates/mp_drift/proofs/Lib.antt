@@ -2,5 +2,5 @@ pub mod Limits
 pub mod Loops
 pub mod Fitting
 pub mod Finding
-pub mod Periods
 pub mod Opening
+pub mod Periods

@@ -1,13 +1,12 @@
 -- How great the numbers of a network and the terms of its movements are.
-use Rattle.std.proofs.Common.{◌≡◌, ◌==◌, ℕ, suc, ◌+◌, ◌-◌, ◌*◌, ◌/◌, ◌^◌, ◌<◌, ◌≤◌, Bool, true, max, List, [], ◌∷◌, length, filter, sum_by, arith, refl, eq-eqb}
-use Rattle.std.specs.List.{AllByRecursion, All}
+use Rattle.std.proofs.Common.{◌≡◌, ◌==◌, ℕ, ◌+◌, ◌-◌, ◌*◌, ◌/◌, ◌^◌, ◌≤◌, Bool, true, List, [], ◌∷◌, length, filter, sum_by, arith, refl, eq-eqb}
 use Rattle.std.proofs.lemmas.Nat.{mul-le}
 use Rattle.std.proofs.lemmas.List.Elements.{All-from_recursion}
 use Rattle.std.proofs.lemmas.List.FromFn.{length-range_with_len}
 use Rattle.std.proofs.lemmas.List.Sums.{length-filter, count_by-le-length, sum_by-le}
 use Rattle.mp_model.specs.Network.{Network, movement_numbers, link_numbers, numbers_to, has, no_movement, no_link, link_at, out_of, into_link, goes_to, from_of, to_of, share_of, flow_of, burst_before, rate_before}
-use Rattle.mp_model.specs.NetworkRules.{IsNetwork, IsInRange, IsAcceptable}
-use Rattle.mp_model.specs.Bounds.{credit_term, step_term, drift_constant}
+use Rattle.mp_model.specs.NetworkRules.{IsAcceptable}
+use Rattle.mp_model.specs.Bounds.{credit_term, step_term}
 use Rattle.mp_laws.proofs.Lists.{at_index, at_in, all_in, at_range, has_filter, in_numbers, all_of}
 use Rattle.mp_laws.proofs.Sums.{terms_le}
 use Rattle.mp_drift.specs.Flows.{flow_into}

@@ -1,7 +1,6 @@
 -- The loops that list and sum the terms of movements.
-use Rattle.std.proofs.Common.{◌≡◌, ℕ, ◌+◌, ◌-◌, ◌*◌, ◌<◌, ◌≤◌, List, [], ◌∷◌, ◌++◌, length, map, sum_by, get_or, take, ℤ, pos, refl, ap, ap₂, sym, ◌∙◌, arith, take_all, unsigned_abs}
-use Rattle.std.specs.List.{range_with_len}
-use Rattle.std.proofs.lemmas.List.Sums.{sum_by_more, sum_by_push}
+use Rattle.std.proofs.Common.{◌≡◌, ℕ, ◌+◌, ◌-◌, ◌*◌, ◌<◌, ◌≤◌, List, [], ◌∷◌, ◌++◌, length, map, sum_by, get_or, take, refl, ap, ap₂, sym, ◌∙◌, arith, take_all}
+use Rattle.std.proofs.lemmas.List.Sums.{sum_by_more}
 use Rattle.std.proofs.lemmas.List.FromFn.{map-range_with_len_more, get_or-map-range_with_len, length-map-range_with_len, sum_by-map-range_with_len_more}
 use Rattle.mp_model.specs.Network.{numbers_to}
 

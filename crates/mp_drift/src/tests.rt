@@ -97,6 +97,46 @@ fn one_link(rt: &impl Abort, alloc: Global) -> Result<Net, Fail> {
     Ok(build(alloc, parts)?)
 }
 
+// Three junctions in a row, with two main roads against each other and cross roads.
+fn corridor(rt: &impl Abort, alloc: Global) -> Result<Net, Fail> {
+    let mut parts = no_links(alloc, 100, 40);
+    for (burst, rate, to) in [
+        (30, 600, Some(2)),
+        (0, 0, Some(3)),
+        (0, 0, None),
+        (30, 500, Some(5)),
+        (0, 0, Some(6)),
+        (0, 0, None),
+    ] {
+        add_link(
+            rt,
+            alloc,
+            &mut parts,
+            burst,
+            rate,
+            &[(to, 70, 90), (None, 10, 40), (None, 20, 40)],
+        )?;
+    }
+    for (left, right) in [
+        (Some(2), None),
+        (Some(3), Some(6)),
+        (None, Some(5)),
+        (None, Some(2)),
+        (Some(6), Some(3)),
+        (Some(5), None),
+    ] {
+        add_link(
+            rt,
+            alloc,
+            &mut parts,
+            10,
+            200,
+            &[(None, 40, 45), (left, 30, 40), (right, 30, 40)],
+        )?;
+    }
+    Ok(build(alloc, parts)?)
+}
+
 fn want_constants(
     rt: &impl Abort,
     alloc: Global,
@@ -183,6 +223,39 @@ fn gives_constants_and_bounds(rt: HostRuntime) -> Result<(), Fail> {
     let round = turning_back(&rt, alloc)?;
     want_constants(&rt, alloc, &round, &[8, 8], &[16, 16], 1280)?;
     want_bounds(&rt, alloc, &round, (7, 8), 11, 12096, &[14, 14])?;
+    Ok(())
+}
+
+#[test]
+fn gives_the_bounds_of_a_corridor(rt: HostRuntime) -> Result<(), Fail> {
+    let alloc = rt.alloc();
+    let net = corridor(&rt, alloc)?;
+    let k = [
+        91920, 19920, 31920, 7920, 7920, 7920, 7920, 7920, 7920, 91920, 19920, 31920, 7920, 7920,
+        7920, 7920, 7920, 7920, 23920, 19920, 19920, 23920, 19920, 19920, 23920, 19920, 19920,
+        23920, 19920, 19920, 23920, 19920, 19920, 23920, 19920, 19920,
+    ];
+    let m = [
+        360000, 160000, 160000, 476000, 160000, 160000, 476000, 160000, 160000, 360000, 160000,
+        160000, 476000, 160000, 160000, 476000, 160000, 160000, 180000, 160000, 160000, 180000,
+        160000, 160000, 180000, 160000, 160000, 180000, 160000, 160000, 180000, 160000, 160000,
+        180000, 160000, 160000,
+    ];
+    want_constants(&rt, alloc, &net, &k, &m, 3_111_592_960_000)?;
+    let bound = [
+        17119, 17101, 17104, 17098, 17098, 17098, 17098, 17098, 17098, 17119, 17101, 17104, 17098,
+        17098, 17098, 17098, 17098, 17098, 17102, 17101, 17101, 17102, 17101, 17101, 17102, 17101,
+        17101, 17102, 17101, 17101, 17102, 17101, 17101, 17102, 17101, 17101,
+    ];
+    want_bounds(
+        &rt,
+        alloc,
+        &net,
+        (57387, 9974),
+        16900,
+        4_676_901_225_574_400,
+        &bound,
+    )?;
     Ok(())
 }
 

@@ -1,3 +1,5 @@
+pub mod AboveLemmas
+pub mod BucketLemmas
 pub mod LineLemmas
 pub mod PeriodLemmas
 pub mod ProgressLemmas

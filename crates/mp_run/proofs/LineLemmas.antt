@@ -47,15 +47,19 @@ starts_more net text kinds more kind starts is = record {
   taken = all_more kinds kind starts.taken is;
 }
 
+-- the arrivals of a line stand between those before and those behind it
+pub arrivals_there : (kinds more : List LineKind) (counts : List ℕ) → arrivals_of_kinds (kinds ++ arrivals_line counts ∷ more) ≡ arrivals_of_kinds kinds ++ counts ∷ arrivals_of_kinds more
+arrivals_there [] more counts = refl
+arrivals_there (arrivals_line c ∷ ks) more counts = ap (λ A. c ∷ A) (arrivals_there ks more counts)
+arrivals_there (skipped_line ∷ ks) more counts = arrivals_there ks more counts
+arrivals_there (long_line ∷ ks) more counts = arrivals_there ks more counts
+arrivals_there (bad_line ∷ ks) more counts = arrivals_there ks more counts
+arrivals_there (hear_line j l ∷ ks) more counts = arrivals_there ks more counts
+arrivals_there (decide_line j ∷ ks) more counts = arrivals_there ks more counts
+
 -- the arrivals of one more line
 pub arrivals_more : (kinds : List LineKind) (counts : List ℕ) → arrivals_of_kinds (kinds ++ arrivals_line counts ∷ []) ≡ arrivals_of_kinds kinds ++ counts ∷ []
-arrivals_more [] counts = refl
-arrivals_more (arrivals_line c ∷ ks) counts = ap (λ A. c ∷ A) (arrivals_more ks counts)
-arrivals_more (skipped_line ∷ ks) counts = arrivals_more ks counts
-arrivals_more (long_line ∷ ks) counts = arrivals_more ks counts
-arrivals_more (bad_line ∷ ks) counts = arrivals_more ks counts
-arrivals_more (hear_line j l ∷ ks) counts = arrivals_more ks counts
-arrivals_more (decide_line j ∷ ks) counts = arrivals_more ks counts
+arrivals_more kinds counts = arrivals_there kinds [] counts
 
 pub arrivals_skipped : (kinds : List LineKind) → arrivals_of_kinds (kinds ++ skipped_line ∷ []) ≡ arrivals_of_kinds kinds
 arrivals_skipped [] = refl

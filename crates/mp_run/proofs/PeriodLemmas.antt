@@ -1,5 +1,5 @@
 -- One period and the end, from what the calls say.
-use Rattle.std.proofs.Common.{◌≡◌, ◌≤◌, ◌<◌, ◌^◌, ℕ, ℤ, pos, ◌+◌, ◌-◌, List, [], ◌∷◌, ◌++◌, length, map, sum, sum_by, refl, sym, ◌∙◌, ap, subst, arith, Result, Ok, Err, OnOk, OnErr}
+use Rattle.std.proofs.Common.{◌≡◌, ◌≤◌, ◌<◌, ◌^◌, ℕ, ℤ, pos, ◌+◌, ◌-◌, List, [], ◌∷◌, ◌++◌, length, map, sum, sum_by, refl, sym, ◌∙◌, ap, subst, arith, Result, Ok, Err, Some, None}
 use Rattle.std.specs.declared.option.Option.{Option}
 use Rattle.std.specs.List.{range_with_len, All, AllByRecursion}
 use Rattle.std.proofs.lemmas.List.{append-nil, append_assoc, length-append, length-map, get_or_at}
@@ -8,13 +8,16 @@ use Rattle.std.proofs.lemmas.List.Elements.{All-cons}
 use Rattle.mp_model.specs.Network.{Network, Junction, movement_numbers, entry}
 use Rattle.mp_model.specs.NetworkRules.{IsInRange}
 use Rattle.mp_model.specs.Arrivals.{arrivals_of, HasCounts}
+use Rattle.mp_model.specs.Stream.LineKind.{arrivals_line}
 use Rattle.mp_model.specs.Step.{State, AreStages, queue, queued, step}
 use Rattle.mp_model.specs.Run.{greatest_stages, advance}
 use Rattle.mp_model.specs.Log.{text_of, period_line, line_after, end_line, end_line_of}
 use Rattle.mp_edge.specs.Outside.{Tells, Puts, GainsPrefix}
 use Rattle.mp_edge.proofs.Told.{Tells-weaker}
-use Rattle.mp_run.specs.Running.{Closed, CutShort, Finishes}
-use Rattle.mp_run.specs.declared.run.RunEnd.TheVariants.{Done, Write}
+use Rattle.mp_laws.specs.Buckets.{IsFirstAbove}
+use Rattle.mp_step.specs.Taken.{HasTaken}
+use Rattle.mp_run.specs.Running.{TakesLine, Finishes}
+use Rattle.mp_run.specs.declared.run.RunEnd.TheVariants.{Done, Write, Above}
 use Rattle.mp_log.specs.Fitting.{FitsLine}
 use Rattle.mp_log.proofs.FedLemmas.{fed_few}
 use Rattle.mp_press.specs.Queues.{naturals, NoneNegative}
@@ -109,22 +112,27 @@ put_line net stages counts shown old new period chosen closes is same state stan
     ∙ line_is net stages counts old new chosen state stands (advanced net stages counts old new chosen closes state stands)
 
 -- a put that succeeds closes the period
-pub closes_period : {T E : Type 0} (r : Result T E) (net : Network) (stages counts shown : List ℕ) (old new : Standing) (period : ℕ) (was now : Option (List ℕ)) → stages ≡ greatest_stages net (entry old.queues)
+pub closes_period : (net : Network) (stages counts shown : List ℕ) (old new : Standing) (period n : ℕ) (was now : Option (List ℕ)) → stages ≡ greatest_stages net (entry old.queues) → ((A : List (List ℕ)) → HasTaken net old A → HasTaken net new (A ++ counts ∷ []))
     → ((state : State) → Stands net old state → Stands net new (step net stages (arrivals_of net counts) state)) → period ≡ new.period → shown ≡ stages
-    → Tells was now (Puts r (period_line period counts shown new.queues ++ 10 ∷ [])) → OnOk r (Closed net counts old new was now)
-closes_period (Ok x) net stages counts shown old new period was now chosen closes is same told = record {
+    → Tells was now (λ before after. after ≡ before ++ (period_line period counts shown new.queues ++ 10 ∷ [])) → TakesLine net (arrivals_line counts) n None old new was now
+closes_period net stages counts shown old new period n was now chosen takes closes is same told = record {
   moved = advanced net stages counts old new chosen closes;
+  taken = takes;
   written = λ state stands. Tells-weaker _ _ _ _ (λ before after e. e ∙ ap (λ xs. before ++ xs) (put_line net stages counts shown old new period chosen closes is same state stands)) told;
 }
-closes_period (Err e) net stages counts shown old new period was now chosen closes is same told = tt
 
--- and one that fails cuts its line short
-pub cuts_period : {T E : Type 0} (r : Result T E) (net : Network) (stages counts shown : List ℕ) (old new : Standing) (period : ℕ) (was now : Option (List ℕ)) → stages ≡ greatest_stages net (entry old.queues)
+-- one that fails cuts its line short
+pub cuts_period : (net : Network) (stages counts shown : List ℕ) (old new : Standing) (period n : ℕ) (was now : Option (List ℕ)) → stages ≡ greatest_stages net (entry old.queues) → ((A : List (List ℕ)) → HasTaken net old A → HasTaken net new (A ++ counts ∷ []))
     → ((state : State) → Stands net old state → Stands net new (step net stages (arrivals_of net counts) state)) → period ≡ new.period → shown ≡ stages
-    → Tells was now (Puts r (period_line period counts shown new.queues ++ 10 ∷ [])) → OnErr r (CutShort net counts old was now)
-cuts_period (Ok x) net stages counts shown old new period was now chosen closes is same told = tt
-cuts_period (Err e) net stages counts shown old new period was now chosen closes is same told =
-    λ state stands. subst (λ (text : List ℕ). Tells was now (GainsPrefix text)) (put_line net stages counts shown old new period chosen closes is same state stands) told
+    → Tells was now (GainsPrefix (period_line period counts shown new.queues ++ 10 ∷ [])) → TakesLine net (arrivals_line counts) n (Some Write) old new was now
+cuts_period net stages counts shown old new period n was now chosen takes closes is same told = record {
+  permitted = λ A taken. (takes A taken).permitted;
+  cut = λ state stands. subst (λ (text : List ℕ). Tells was now (GainsPrefix text)) (put_line net stages counts shown old new period chosen closes is same state stands) told;
+}
+
+-- and nothing is put of a period above a bucket
+pub exceeds_bucket : (net : Network) (counts : List ℕ) (old new : Standing) (n p l : ℕ) (was : Option (List ℕ)) → p ≡ old.period + 1 → ((A : List (List ℕ)) → HasTaken net old A → IsFirstAbove net A counts l) → TakesLine net (arrivals_line counts) n (Some (Above n p l)) old new was was
+exceeds_bucket net counts old new n p l was is above = (record { period = is; above = above }, refl, refl)
 
 put_end_is : (net : Network) (st : Standing) (period total_in total_out n : ℕ) → IsOn net st → period ≡ st.period → total_in ≡ st.total_in → total_out ≡ st.total_out → n ≡ total_in - total_out
     → st.total_in ≡ st.total_out + sum st.queues → (state : State) → Stands net st state → end_line_of period total_in total_out n ++ 10 ∷ [] ≡ text_of (end_line net state ∷ [])

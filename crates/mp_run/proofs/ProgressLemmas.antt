@@ -7,6 +7,7 @@ use Rattle.mp_edge.specs.Outside.{Tells, IsPrefix, GainsPrefix}
 use Rattle.mp_edge.proofs.Told.{Tells-weaker, Tells-then, Tells-same}
 use Rattle.mp_edge.proofs.Gains.{GainsPrefix-longer, GainsPrefix-then}
 use Rattle.mp_model.specs.Network.{Network}
+use Rattle.mp_model.specs.Arrivals.{IsPermitted}
 use Rattle.mp_model.specs.Step.{State}
 use Rattle.mp_model.specs.Run.{opening, advance, state_after}
 use Rattle.mp_model.specs.Log.{text_of, line_after, lines_from, period_lines, end_line, run_text}
@@ -16,9 +17,11 @@ use Rattle.mp_text.specs.Cut.{Cut}
 use Rattle.mp_text.specs.Cutting.{Cuts}
 use Rattle.mp_text.specs.declared.cutter.LineStep.TheVariants.{Line, End, TooLong, Failed}
 use Rattle.mp_step.specs.Standing.{Standing, Stands}
-use Rattle.mp_run.specs.Running.{EndsAs, IsTaken, StartsWith, RefusedAt, HasTooMany, StopsReading, StopsWriting, TakesKind, CutsKind, TakesLine, Finishes, Progress}
+use Rattle.mp_step.specs.Taken.{HasTaken}
+use Rattle.mp_run.specs.Running.{EndsAs, IsTaken, StartsWith, RefusedAt, RefusedAbove, HasTooMany, StopsReading, StopsWriting, TakesKind, CutsKind, ExceedsKind, TakesLine, Finishes, Progress}
 use Rattle.mp_run.specs.declared.run.RunEnd.{RunEnd}
-use Rattle.mp_run.specs.declared.run.RunEnd.TheVariants.{Done, Read, Write, LineLimit, Long, Grammar}
+use Rattle.mp_run.specs.declared.run.RunEnd.TheVariants.{Done, Read, Write, LineLimit, Long, Grammar, Above}
+use Rattle.mp_run.proofs.BucketLemmas.{permitted_empty}
 use Rattle.mp_run.proofs.LineLemmas.{first_kind, first_long, starts_empty, starts_more, arrivals_more, arrivals_skipped}
 
 -- one more period at the end of a run
@@ -40,11 +43,12 @@ run_text_is : (net : Network) (A : List (List ℕ)) → run_text net A ≡ text_
 run_text_is net A = text-append (period_lines net A) (end_line net (state_after net (opening net) A) ∷ [])
 
 -- nothing is read or written yet
-pub progress_start : (net : Network) (whole was : Option (List ℕ)) (cut : Cut) (standing : Standing) → cut ≡ record { line = []; held = [] } → Stands net standing (opening net) → Progress net whole whole cut.held was was standing 0
-progress_start net whole was cut standing new stands = record {
+pub progress_start : (net : Network) (whole was : Option (List ℕ)) (cut : Cut) (standing : Standing) → cut ≡ record { line = []; held = [] } → Stands net standing (opening net) → HasTaken net standing [] → Progress net whole whole cut.held was was standing 0
+progress_start net whole was cut standing new stands has_taken = record {
   kinds = [];
   count = refl;
   stands = stands;
+  taken = has_taken;
   to_come = Tells-same whole _ (λ text. subst (λ (c : Cut). StartsWith net text [] (plain_kinds net (c.held ++ text))) (sym new) (starts_empty net text));
   written = Tells-same was _ (λ before. sym (append-nil before));
 }
@@ -60,43 +64,46 @@ to_come_more : (net : Network) (whole left : Option (List ℕ)) (held : List ℕ
 to_come_more net whole left held kinds kind is told = Tells-weaker _ _ _ _ (λ text rest starts. starts_more net text kinds (plain_kinds net (held ++ rest)) kind starts is) told
 
 taken : (net : Network) (whole left : Option (List ℕ)) (held : List ℕ) (was now now' : Option (List ℕ)) (old new : Standing) (kinds : List LineKind) (kind : LineKind) (lines : ℕ) → length kinds ≡ lines
-    → Stands net old (state_after net (opening net) (arrivals_of_kinds kinds)) → Tells was now (λ before after. after ≡ before ++ text_of (period_lines net (arrivals_of_kinds kinds)))
+    → Stands net old (state_after net (opening net) (arrivals_of_kinds kinds)) → HasTaken net old (arrivals_of_kinds kinds) → Tells was now (λ before after. after ≡ before ++ text_of (period_lines net (arrivals_of_kinds kinds)))
     → Tells whole left (λ text rest. StartsWith net text kinds (kind ∷ plain_kinds net (held ++ rest))) → TakesKind net kind old new now now' → Progress net whole left held was now' new (lines + 1)
-taken net whole left held was now now' old new kinds skipped_line lines count stands written told takes = record {
+taken net whole left held was now now' old new kinds skipped_line lines count stands has_taken written told takes = record {
   kinds = kinds ++ skipped_line ∷ [];
   count = omega (arith, length-append kinds (skipped_line ∷ []));
   stands = subst (λ A. Stands net new (state_after net (opening net) A)) (sym (arrivals_skipped kinds)) (subst (λ st. Stands net st (state_after net (opening net) (arrivals_of_kinds kinds))) (sym takes.0) stands);
+  taken = subst (HasTaken net new) (sym (arrivals_skipped kinds)) (subst (λ st. HasTaken net st (arrivals_of_kinds kinds)) (sym takes.0) has_taken);
   to_come = to_come_more net whole left held kinds skipped_line tt told;
   written = subst (λ A. Tells was now' (λ before after. after ≡ before ++ text_of (period_lines net A))) (sym (arrivals_skipped kinds))
       (subst (λ o. Tells was o (λ before after. after ≡ before ++ text_of (period_lines net (arrivals_of_kinds kinds)))) (sym takes.1) written);
 }
-taken net whole left held was now now' old new kinds (arrivals_line counts) lines count stands written told takes =
+taken net whole left held was now now' old new kinds (arrivals_line counts) lines count stands has_taken written told takes =
     let state = state_after net (opening net) (arrivals_of_kinds kinds) in
     record {
       kinds = kinds ++ arrivals_line counts ∷ [];
       count = omega (arith, length-append kinds (arrivals_line counts ∷ []));
       stands = subst (λ (s : State). Stands net new s) (sym (ap (state_after net (opening net)) (arrivals_more kinds counts) ∙ state_more net (opening net) (arrivals_of_kinds kinds) counts)) (takes.moved state stands);
+      taken = subst (HasTaken net new) (sym (arrivals_more kinds counts)) (takes.taken (arrivals_of_kinds kinds) has_taken);
       to_come = to_come_more net whole left held kinds (arrivals_line counts) tt told;
       written = Tells-then _ _ _ _ _ _ (λ before mid after w l. l ∙ ap (λ xs. xs ++ text_of (line_after net state counts ∷ [])) w
           ∙ append_assoc before (text_of (period_lines net (arrivals_of_kinds kinds))) (text_of (line_after net state counts ∷ []))
           ∙ ap (λ xs. before ++ xs) (sym (text_more net (arrivals_of_kinds kinds) counts) ∙ ap (λ A. text_of (period_lines net A)) (sym (arrivals_more kinds counts)))) written (takes.written state stands);
     }
-taken net whole left held was now now' old new kinds long_line lines count stands written told takes = absurd takes
-taken net whole left held was now now' old new kinds bad_line lines count stands written told takes = absurd takes
-taken net whole left held was now now' old new kinds (hear_line j l) lines count stands written told takes = absurd takes
-taken net whole left held was now now' old new kinds (decide_line j) lines count stands written told takes = absurd takes
+taken net whole left held was now now' old new kinds long_line lines count stands has_taken written told takes = absurd takes
+taken net whole left held was now now' old new kinds bad_line lines count stands has_taken written told takes = absurd takes
+taken net whole left held was now now' old new kinds (hear_line j l) lines count stands has_taken written told takes = absurd takes
+taken net whole left held was now now' old new kinds (decide_line j) lines count stands has_taken written told takes = absurd takes
 
 pub progress_line : (net : Network) (whole left left' : Option (List ℕ)) (cut new_cut : Cut) (was now now' : Option (List ℕ)) (old new : Standing) (n lines : ℕ)
     → Progress net whole left cut.held was now old lines → Tells left left' (Cuts 2049 Line cut new_cut) → TakesLine net (without_events (plain_kind net new_cut.line)) n None old new now now'
     → Progress net whole left' new_cut.held was now' new (lines + 1)
 progress_line net whole left left' cut new_cut was now now' old new n lines p cuts takes =
-    taken net whole left' new_cut.held was now now' old new p.kinds (without_events (plain_kind net new_cut.line)) lines p.count p.stands p.written (line_to_come net whole left left' cut new_cut p.kinds p.to_come cuts) takes
+    taken net whole left' new_cut.held was now now' old new p.kinds (without_events (plain_kind net new_cut.line)) lines p.count p.stands p.taken p.written (line_to_come net whole left left' cut new_cut p.kinds p.to_come cuts) takes
 
 -- the next line is too long
 pub progress_long : (net : Network) (whole left left' : Option (List ℕ)) (cut new_cut : Cut) (was now : Option (List ℕ)) (standing : Standing) (lines : ℕ)
     → Progress net whole left cut.held was now standing lines → Tells left left' (Cuts 2049 TooLong cut new_cut) → RefusedAt net [] long_line (lines + 1) whole left' was now
 progress_long net whole left left' cut new_cut was now standing lines p cuts = record {
   kinds = p.kinds;
+  permitted = p.taken.permitted;
   number = ap (λ n. n + 1) (sym p.count);
   read = Tells-then _ _ _ _ _ _ (λ text mid rest starts long.
       let first = first_long net (cut.held ++ mid) long in
@@ -109,6 +116,7 @@ pub progress_failed : (net : Network) (whole left left' : Option (List ℕ)) (cu
     → Progress net whole left cut.held was now standing lines → Tells left left' (Cuts 2049 Failed cut new_cut) → StopsReading net [] whole left' was now
 progress_failed net whole left left' cut new_cut was now standing lines p cuts = record {
   kinds = p.kinds;
+  permitted = p.taken.permitted;
   read = Tells-then _ _ _ _ _ _ (λ text mid rest starts same. (plain_kinds net (new_cut.held ++ rest), subst (λ (t : List ℕ). StartsWith net text p.kinds (plain_kinds net t)) same starts)) p.to_come cuts;
   written = p.written;
 }
@@ -118,6 +126,7 @@ pub progress_many : (net : Network) (whole left left' : Option (List ℕ)) (cut 
     → Progress net whole left cut.held was now standing (2 ^ 48) → Tells left left' (Cuts 2049 Line cut new_cut) → HasTooMany net [] whole left' was now
 progress_many net whole left left' cut new_cut was now standing p cuts = record {
   kinds = p.kinds;
+  permitted = p.taken.permitted;
   number = p.count;
   read = Tells-weaker _ _ _ _ (λ text rest starts. (without_events (plain_kind net new_cut.line), plain_kinds net (new_cut.held ++ rest), starts)) (line_to_come net whole left left' cut new_cut p.kinds p.to_come cuts);
   written = p.written;
@@ -127,6 +136,7 @@ pub progress_many_long : (net : Network) (whole left left' : Option (List ℕ)) 
     → Progress net whole left cut.held was now standing (2 ^ 48) → Tells left left' (Cuts 2049 TooLong cut new_cut) → HasTooMany net [] whole left' was now
 progress_many_long net whole left left' cut new_cut was now standing p cuts = record {
   kinds = p.kinds;
+  permitted = p.taken.permitted;
   number = p.count;
   read = Tells-then _ _ _ _ _ _ (λ text mid rest starts long.
       let first = first_long net (cut.held ++ mid) long in
@@ -159,6 +169,7 @@ pub progress_end : (net : Network) (end : RunEnd) (whole left left' : Option (Li
     → Progress net whole left cut.held was now standing lines → Tells left left' (Cuts 2049 End cut new_cut) → Finishes net end standing now now' → EndsAs net [] end whole left' was now'
 progress_end net Done whole left left' cut new_cut was now now' standing lines p cuts finishes = record {
   kinds = p.kinds;
+  permitted = p.taken.permitted;
   read = ends_there net whole left left' cut new_cut p.kinds p.to_come cuts;
   written = behind_periods net p.kinds was now now' p.written (finishes (state_after net (opening net) (arrivals_of_kinds p.kinds)) p.stands);
 }
@@ -167,6 +178,7 @@ progress_end net Write whole left left' cut new_cut was now now' standing lines 
     let last = text_of (end_line net (state_after net (opening net) A) ∷ []) in
     record {
       kinds = p.kinds;
+      permitted = p.taken.permitted;
       read = Tells-weaker _ _ _ _ (λ text rest ended. ([], ended.1)) (ends_there net whole left left' cut new_cut p.kinds p.to_come cuts);
       written = cut_behind net p.kinds was now now' last (run_text net A) ([], sym (append-nil (text_of (period_lines net A) ++ last) ∙ sym (run_text_is net A))) p.written (finishes (state_after net (opening net) A) p.stands);
     }
@@ -174,12 +186,13 @@ progress_end net Read whole left left' cut new_cut was now now' standing lines p
 progress_end net LineLimit whole left left' cut new_cut was now now' standing lines p cuts finishes = absurd finishes
 progress_end net (Long n) whole left left' cut new_cut was now now' standing lines p cuts finishes = absurd finishes
 progress_end net (Grammar n) whole left left' cut new_cut was now now' standing lines p cuts finishes = absurd finishes
+progress_end net (Above n t l) whole left left' cut new_cut was now now' standing lines p cuts finishes = absurd finishes
 
 -- the line of the period was cut short
 cut_at : (net : Network) (whole left : Option (List ℕ)) (held : List ℕ) (was now now' : Option (List ℕ)) (standing : Standing) (kinds : List LineKind) (kind : LineKind)
-    → Stands net standing (state_after net (opening net) (arrivals_of_kinds kinds)) → Tells was now (λ before after. after ≡ before ++ text_of (period_lines net (arrivals_of_kinds kinds)))
+    → Stands net standing (state_after net (opening net) (arrivals_of_kinds kinds)) → HasTaken net standing (arrivals_of_kinds kinds) → Tells was now (λ before after. after ≡ before ++ text_of (period_lines net (arrivals_of_kinds kinds)))
     → Tells whole left (λ text rest. StartsWith net text kinds (kind ∷ plain_kinds net (held ++ rest))) → CutsKind net kind standing now now' → StopsWriting net [] whole left was now'
-cut_at net whole left held was now now' standing kinds (arrivals_line counts) stands written told cut =
+cut_at net whole left held was now now' standing kinds (arrivals_line counts) stands has_taken written told cut =
     let A = arrivals_of_kinds kinds in
     let line = text_of (line_after net (state_after net (opening net) A) counts ∷ []) in
     let more = arrivals_of_kinds (kinds ++ arrivals_line counts ∷ []) in
@@ -187,27 +200,60 @@ cut_at net whole left held was now now' standing kinds (arrivals_line counts) st
     let front : text_of (period_lines net more) ≡ text_of (period_lines net A) ++ line = ap (λ B. text_of (period_lines net B)) (arrivals_more kinds counts) ∙ text_more net A counts in
     record {
       kinds = kinds ++ arrivals_line counts ∷ [];
+      permitted = subst (IsPermitted net) (sym (arrivals_more kinds counts)) (cut.permitted (arrivals_of_kinds kinds) has_taken);
       read = Tells-weaker _ _ _ _ (λ text rest starts. (plain_kinds net (held ++ rest), starts_more net text kinds (plain_kinds net (held ++ rest)) (arrivals_line counts) starts tt)) told;
-      written = cut_behind net kinds was now now' line (run_text net more) (last, run_text_is net more ∙ ap (λ xs. xs ++ last) front) written (cut (state_after net (opening net) A) stands);
+      written = cut_behind net kinds was now now' line (run_text net more) (last, run_text_is net more ∙ ap (λ xs. xs ++ last) front) written (cut.cut (state_after net (opening net) A) stands);
     }
-cut_at net whole left held was now now' standing kinds skipped_line stands written told cut = absurd cut
-cut_at net whole left held was now now' standing kinds long_line stands written told cut = absurd cut
-cut_at net whole left held was now now' standing kinds bad_line stands written told cut = absurd cut
-cut_at net whole left held was now now' standing kinds (hear_line j l) stands written told cut = absurd cut
-cut_at net whole left held was now now' standing kinds (decide_line j) stands written told cut = absurd cut
+cut_at net whole left held was now now' standing kinds skipped_line stands has_taken written told cut = absurd cut
+cut_at net whole left held was now now' standing kinds long_line stands has_taken written told cut = absurd cut
+cut_at net whole left held was now now' standing kinds bad_line stands has_taken written told cut = absurd cut
+cut_at net whole left held was now now' standing kinds (hear_line j l) stands has_taken written told cut = absurd cut
+cut_at net whole left held was now now' standing kinds (decide_line j) stands has_taken written told cut = absurd cut
+
+-- the period counts the arrivals before
+periods : (net : Network) (state : State) (A : List (List ℕ)) → (state_after net state A).period ≡ state.period + length A
+periods net state [] = omega arith
+periods net state (a ∷ A) = let rest : (state_after net (advance net a state) A).period ≡ state.period + 1 + length A = periods net (advance net a state) A in omega arith
+
+periods_of : (net : Network) (A : List (List ℕ)) → (state_after net (opening net) A).period ≡ length A
+periods_of net A = omega (arith, periods net (opening net) A)
+
+-- the line of arrivals is above a bucket
+above_at : (net : Network) (whole left : Option (List ℕ)) (held : List ℕ) (was now : Option (List ℕ)) (standing : Standing) (kinds : List LineKind) (kind : LineKind) (n p l : ℕ) → n ≡ length kinds + 1
+    → Stands net standing (state_after net (opening net) (arrivals_of_kinds kinds)) → HasTaken net standing (arrivals_of_kinds kinds) → Tells was now (λ before after. after ≡ before ++ text_of (period_lines net (arrivals_of_kinds kinds)))
+    → Tells whole left (λ text rest. StartsWith net text kinds (kind ∷ plain_kinds net (held ++ rest))) → ExceedsKind net kind p l standing → RefusedAbove net [] n p l whole left was now
+above_at net whole left held was now standing kinds (arrivals_line counts) n p l number stands has_taken written told exceeds = record {
+  kinds = kinds;
+  counts = counts;
+  number = number;
+  period = exceeds.period ∙ ap (λ t. t + 1) (stands.period ∙ periods_of net (arrivals_of_kinds kinds));
+  permitted = has_taken.permitted;
+  above = exceeds.above (arrivals_of_kinds kinds) has_taken;
+  read = Tells-weaker _ _ _ _ (λ text rest starts. (plain_kinds net (held ++ rest), starts)) told;
+  written = written;
+}
+above_at net whole left held was now standing kinds skipped_line n p l number stands has_taken written told exceeds = absurd exceeds
+above_at net whole left held was now standing kinds long_line n p l number stands has_taken written told exceeds = absurd exceeds
+above_at net whole left held was now standing kinds bad_line n p l number stands has_taken written told exceeds = absurd exceeds
+above_at net whole left held was now standing kinds (hear_line j m) n p l number stands has_taken written told exceeds = absurd exceeds
+above_at net whole left held was now standing kinds (decide_line j) n p l number stands has_taken written told exceeds = absurd exceeds
 
 -- the run ends at a line
 pub progress_stop : (net : Network) (end : RunEnd) (whole left left' : Option (List ℕ)) (cut new_cut : Cut) (was now now' : Option (List ℕ)) (old new : Standing) (lines : ℕ)
     → Progress net whole left cut.held was now old lines → Tells left left' (Cuts 2049 Line cut new_cut) → TakesLine net (without_events (plain_kind net new_cut.line)) (lines + 1) (Some end) old new now now' → EndsAs net [] end whole left' was now'
 progress_stop net Write whole left left' cut new_cut was now now' old new lines p cuts takes =
-    cut_at net whole left' new_cut.held was now now' old p.kinds (without_events (plain_kind net new_cut.line)) p.stands p.written (line_to_come net whole left left' cut new_cut p.kinds p.to_come cuts) takes
+    cut_at net whole left' new_cut.held was now now' old p.kinds (without_events (plain_kind net new_cut.line)) p.stands p.taken p.written (line_to_come net whole left left' cut new_cut p.kinds p.to_come cuts) takes
 progress_stop net (Grammar m) whole left left' cut new_cut was now now' old new lines p cuts takes = record {
   kinds = p.kinds;
+  permitted = p.taken.permitted;
   number = takes.1 ∙ ap (λ n. n + 1) (sym p.count);
   read = Tells-weaker _ _ _ _ (λ text rest starts. (plain_kinds net (new_cut.held ++ rest), subst (λ kind. StartsWith net text p.kinds (kind ∷ plain_kinds net (new_cut.held ++ rest))) takes.0 starts))
       (line_to_come net whole left left' cut new_cut p.kinds p.to_come cuts);
   written = subst (λ o. Tells was o (λ before after. after ≡ before ++ text_of (period_lines net (arrivals_of_kinds p.kinds)))) (sym takes.2) p.written;
 }
+progress_stop net (Above m t l) whole left left' cut new_cut was now now' old new lines p cuts takes =
+    above_at net whole left' new_cut.held was now' old p.kinds (without_events (plain_kind net new_cut.line)) m t l (takes.1 ∙ ap (λ n. n + 1) (sym p.count)) p.stands p.taken
+    (subst (λ o. Tells was o (λ before after. after ≡ before ++ text_of (period_lines net (arrivals_of_kinds p.kinds)))) (sym takes.2) p.written) (line_to_come net whole left left' cut new_cut p.kinds p.to_come cuts) takes.0
 progress_stop net Done whole left left' cut new_cut was now now' old new lines p cuts takes = absurd takes
 progress_stop net Read whole left left' cut new_cut was now now' old new lines p cuts takes = absurd takes
 progress_stop net LineLimit whole left left' cut new_cut was now now' old new lines p cuts takes = absurd takes
@@ -223,34 +269,50 @@ behind_head net head kinds was mid now put written =
 pub with_head : (net : Network) (head : List ℕ) (end : RunEnd) (whole left was mid now : Option (List ℕ)) → Tells was mid (λ before after. after ≡ before ++ head) → EndsAs net [] end whole left mid now → EndsAs net head end whole left was now
 with_head net head Done whole left was mid now put ends = record {
   kinds = ends.kinds;
+  permitted = ends.permitted;
   read = ends.read;
   written = Tells-then _ _ _ _ _ _ (λ before middle after w e. e ∙ ap (λ xs. xs ++ run_text net (arrivals_of_kinds ends.kinds)) w ∙ append_assoc before head (run_text net (arrivals_of_kinds ends.kinds))) put ends.written;
 }
 with_head net head Read whole left was mid now put ends = record {
   kinds = ends.kinds;
+  permitted = ends.permitted;
   read = ends.read;
   written = behind_head net head ends.kinds was mid now put ends.written;
 }
 with_head net head Write whole left was mid now put ends = record {
   kinds = ends.kinds;
+  permitted = ends.permitted;
   read = ends.read;
   written = Tells-then _ _ _ _ _ _ (λ before middle after w gain. GainsPrefix-then head (run_text net (arrivals_of_kinds ends.kinds)) before middle after w gain) put ends.written;
 }
 with_head net head LineLimit whole left was mid now put ends = record {
   kinds = ends.kinds;
+  permitted = ends.permitted;
   number = ends.number;
   read = ends.read;
   written = behind_head net head ends.kinds was mid now put ends.written;
 }
 with_head net head (Long n) whole left was mid now put ends = record {
   kinds = ends.kinds;
+  permitted = ends.permitted;
   number = ends.number;
   read = ends.read;
   written = behind_head net head ends.kinds was mid now put ends.written;
 }
 with_head net head (Grammar n) whole left was mid now put ends = record {
   kinds = ends.kinds;
+  permitted = ends.permitted;
   number = ends.number;
+  read = ends.read;
+  written = behind_head net head ends.kinds was mid now put ends.written;
+}
+with_head net head (Above n p l) whole left was mid now put ends = record {
+  kinds = ends.kinds;
+  counts = ends.counts;
+  number = ends.number;
+  period = ends.period;
+  permitted = ends.permitted;
+  above = ends.above;
   read = ends.read;
   written = behind_head net head ends.kinds was mid now put ends.written;
 }
@@ -259,6 +321,7 @@ with_head net head (Grammar n) whole left was mid now put ends = record {
 pub head_cut : (net : Network) (head : List ℕ) (whole was now : Option (List ℕ)) → Tells was now (GainsPrefix head) → StopsWriting net head whole whole was now
 head_cut net head whole was now cut = record {
   kinds = [];
+  permitted = permitted_empty net;
   read = Tells-same whole _ (λ text. (plain_kinds net text, starts_empty net text));
   written = Tells-weaker _ _ _ _ (λ before after gain. GainsPrefix-longer head (head ++ run_text net []) before after (run_text net [], refl) gain) cut;
 }

@@ -1,5 +1,5 @@
 -- The least link above its bucket.
-use Rattle.std.proofs.Common.{◌≡◌, ◌==◌, ◌≤◌, ◌<◌, ℕ, zero, suc, ◌+◌, ◌-◌, ◌*◌, ◌||◌, Bool, true, false, cond, List, [], ◌∷◌, length, Option, None, Some, nat_lt, arith, refl, sym, ◌∙◌, ap, ap₂, get_or, zero-le, subst, filter, not, ◌⊎◌, inl, inr, ⊎_elim, map, replicate}
+use Rattle.std.proofs.Common.{◌≡◌, ◌≤◌, ◌<◌, ℕ, zero, suc, ◌+◌, ◌-◌, ◌*◌, Bool, true, false, cond, List, [], ◌∷◌, length, Option, None, Some, arith, refl, sym, ◌∙◌, ap, ap₂, get_or, zero-le, subst, filter, not, ◌⊎◌, inl, inr, ⊎_elim, map, replicate}
 use Rattle.std.specs.Prelude.{find, nat_le}
 use Rattle.std.specs.List.{AllByRecursion, range_with_len}
 use Rattle.std.proofs.lemmas.Bool.{cases_lt, false≢true, true≢false, or_left, lt-ltb, le-leb}

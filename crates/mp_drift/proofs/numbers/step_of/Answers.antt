@@ -1,4 +1,4 @@
-use Rattle.std.proofs.Common.{◌≡◌, length, pos, ap, ◌∙◌, arith, unsigned_abs}
+use Rattle.std.proofs.Common.{length, pos, ap, ◌∙◌, arith, unsigned_abs}
 use Rattle.mp_model.specs.Bounds.{step_term}
 use Rattle.mp_drift.proofs.Limits.{limits, step_few}
 use Rattle.mp_drift.proofs.Loops.{value_at, value_count}

@@ -1,4 +1,4 @@
-use Rattle.std.proofs.Common.{◌≡◌, ◌^◌, ℤ, pos, ◌≤ℤ◌, List, sym, ◌∙◌, subst}
+use Rattle.std.proofs.Common.{◌^◌, ℤ, pos, ◌≤ℤ◌, List, sym, ◌∙◌, subst}
 use Rattle.std.specs.List.{All}
 use Rattle.mp_drift.specs.Bounded.{excess, denominator}
 use Rattle.mp_drift.proofs.Finding.{listed, room_there, all_have_room, root_few}

@@ -6,7 +6,7 @@ use Rattle.mp_run.proofs.run.run_stream.Goals as goal
 
 pub loop-turn-init : goal.loop-turn-init
 loop-turn-init g c = record {
-  progress = progress_start c.args.net.now _ _ c.new-cutter.result c.args.state.now c.new-cutter.ensures c.requires.start;
+  progress = progress_start c.args.net.now _ _ c.new-cutter.result c.args.state.now c.new-cutter.ensures c.requires.start c.requires.taken;
   on = c.requires.on;
   period = let start = c.requires.start.period in omega arith;
   in_later = search rules;

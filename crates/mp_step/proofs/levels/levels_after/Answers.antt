@@ -1,12 +1,11 @@
-use Rattle.std.proofs.Common.{◌≡◌, ◌≤◌, ◌<◌, ◌+◌, ◌-◌, ◌*◌, ◌^◌, ◌∙◌, sym, ap, ap₂, arith, get_or, set, length, ℕ, List, subst, refl, slice_index}
+use Rattle.std.proofs.Common.{◌≡◌, ◌≤◌, ◌<◌, ◌+◌, ◌-◌, ◌*◌, ◌∙◌, sym, ap, ap₂, arith, get_or, set, length, subst, refl, slice_index}
 use Rattle.std.specs.Prelude.{find}
-use Rattle.std.specs.List.{All, range_with_len}
+use Rattle.std.specs.List.{range_with_len}
 use Rattle.std.proofs.lemmas.List.{length-map}
 use Rattle.std.proofs.lemmas.List.Edits.{fill_by_more}
 use Rattle.std.proofs.lemmas.List.FromFn.{length-range_with_len}
 use Rattle.mp_feed.specs.Fill.{Fill}
-use Rattle.mp_model.specs.Network.{Network, link_at, link_numbers, fed, entry}
-use Rattle.mp_model.specs.Arrivals.{arrivals_of}
+use Rattle.mp_model.specs.Network.{link_at, link_numbers, entry}
 use Rattle.mp_laws.proofs.Lists.{at_range}
 use Rattle.mp_press.proofs.Writes.{numbers_by_all}
 use Rattle.mp_step.specs.BucketLevels.{bucket_of, level_then, is_above}

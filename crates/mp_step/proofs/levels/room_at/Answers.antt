@@ -1,8 +1,8 @@
-use Rattle.std.proofs.Common.{◌≡◌, ◌≤◌, ◌<◌, ◌+◌, ◌-◌, ◌*◌, ◌∙◌, ℕ, sym, ap, arith, get_or, length, subst, refl}
+use Rattle.std.proofs.Common.{◌≡◌, ◌+◌, ◌-◌, ◌∙◌, ℕ, sym, ap, arith, get_or, length, subst, refl}
 use Rattle.std.proofs.lemmas.List.{length-map}
 use Rattle.std.proofs.lemmas.List.FromFn.{length-range_with_len}
 use Rattle.mp_feed.specs.Fill.{Fill, Takes}
-use Rattle.mp_model.specs.Network.{link_at, link_numbers, entry}
+use Rattle.mp_model.specs.Network.{link_numbers, entry}
 use Rattle.mp_step.specs.BucketLevels.{bucket_of}
 use Rattle.mp_step.proofs.Above.{bucket_at, within_at, within_length}
 use Rattle.mp_step.proofs.levels.room_at.Goals as goal

@@ -1,10 +1,9 @@
-use Rattle.std.proofs.Common.{◌≡◌, ◌≤◌, ◌<◌, ◌+◌, ◌-◌, ◌%◌, ◌^◌, ◌∙◌, sym, ap, ap₂, arith, get_or, set, length, ℕ, List, sum_by, refl, slice_index, ◌==◌}
+use Rattle.std.proofs.Common.{◌≡◌, ◌≤◌, ◌+◌, ◌-◌, ◌%◌, ◌^◌, ◌∙◌, sym, ap, ap₂, arith, get_or, set, length, ℕ, sum_by, refl, slice_index, ◌==◌}
 use Rattle.std.specs.Prelude.{unsigned_abs}
 use Rattle.std.proofs.lemmas.List.{length-map}
 use Rattle.std.proofs.lemmas.List.Edits.{fill_by_more}
-use Rattle.std.specs.List.{All}
 use Rattle.mp_model.specs.Arrivals.{arrivals_of}
-use Rattle.mp_model.specs.Network.{Network, out_of, into_link, from_of, fed, entry}
+use Rattle.mp_model.specs.Network.{out_of, into_link, from_of, entry}
 use Rattle.mp_model.specs.Step.{joined}
 use Rattle.mp_step.proofs.Moves.{came_few, rows_count, row_at}
 use Rattle.mp_press.proofs.Known.{from_known, kept_known}

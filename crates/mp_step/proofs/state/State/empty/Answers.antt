@@ -1,7 +1,5 @@
-use Rattle.std.proofs.Common.{◌≡◌, ◌∙◌, ap, ap₂, arith, rules, length, pos, replicate, sum, subst, sym}
-use Rattle.mp_model.specs.Network.{link_numbers}
+use Rattle.std.proofs.Common.{◌≡◌, ◌∙◌, ap, arith, rules, length, pos, replicate, sum}
 use Rattle.mp_press.specs.Queues.{naturals}
-use Rattle.mp_step.specs.BucketLevels.{buckets_of, AreWithin}
 use Rattle.mp_step.proofs.Above.{opening_within}
 use Rattle.mp_step.proofs.Following.{opening_queues, opens, no_entries, zeros_positive, zeros_sum}
 use Rattle.mp_step.proofs.Taking.{taken_none}

@@ -1,7 +1,6 @@
-use Rattle.std.proofs.Common.{◌≡◌, ◌<◌, ◌+◌, ◌-◌, ◌∙◌, sym, ap, arith, length, subst}
-use Rattle.mp_feed.specs.Fill.{Fill}
+use Rattle.std.proofs.Common.{◌≡◌, ◌+◌, ◌-◌, ◌∙◌, ap, arith, length, subst}
 use Rattle.mp_model.specs.Network.{entry}
-use Rattle.mp_step.specs.BucketLevels.{AreWithin, IsRoom}
+use Rattle.mp_step.specs.BucketLevels.{IsRoom}
 use Rattle.mp_step.specs.Standing.{Standing}
 use Rattle.mp_step.proofs.Above.{within_length}
 use Rattle.mp_step.proofs.state.State.room.Goals as goal
