@@ -1,8 +1,10 @@
 //! Networks whose constants and bounds were computed apart from this program.
 use super::*;
+use mp_cert::{Cert, CertFault, Mix, Mixes};
 use mp_flow::{CalcFault, Place};
 use mp_net::{JunctionPart, LinkPart, MovementPart, Name, Net, NetParts, build};
-use mp_num::Frac;
+use mp_num::{Frac, Numbers};
+use mp_step::AboveAt;
 use std::alloc::Global;
 use std::process::Abort;
 use std::test::Fail;
@@ -268,5 +270,70 @@ fn refuses_what_has_no_place(rt: HostRuntime) -> Result<(), Fail> {
     let two = two_links(&rt, alloc)?;
     let great = 1_000_000_000_000_000_000_000_000_000_000;
     want_passed(&rt, alloc, &two, (1, great), Place::Bound)?;
+    Ok(())
+}
+
+// A certificate over `d` with the excess `e`, and a rate and a part of the same size per movement of a tandem.
+fn tandem_cert(alloc: Global, d: i128, e: i128, rates: [i128; 2]) -> Result<Cert, Fail> {
+    let mut h = Vec::new(alloc);
+    let mut mix = Vec::new(alloc);
+    for rate in rates {
+        h.push(rate)?;
+        let mut parts = Vec::new(alloc);
+        parts.push(rate)?;
+        mix.push(Mix {
+            whole: 1,
+            parts: Numbers::new(parts),
+        })?;
+    }
+    Ok(Cert {
+        d,
+        e,
+        h: Numbers::new(h),
+        mix: Mixes::new(mix),
+    })
+}
+
+// Each queue is the wanted one, and at most its bound.
+fn want_queues(rt: &impl Abort, session: &Session, queues: [i128; 2]) {
+    assert_eq!(rt; session.state().queues().len(), 2);
+    assert_eq!(rt; session.bounds().len(), 2);
+    for i in 0..2 {
+        assert_eq!(rt; session.state().queues()[i], queues[i]);
+        assert!(rt; queues[i] <= session.bounds()[i]);
+    }
+}
+
+#[test]
+fn keeps_the_bounds_of_a_fed_tandem(rt: HostRuntime) -> Result<(), Fail> {
+    let alloc = rt.alloc();
+    let net = tandem(&rt, alloc, 4, 3)?;
+    let cert = tandem_cert(alloc, 8, 3, [5, 8])?;
+    let mut session = Session::open(alloc, &net, &cert).ok().ok_or("not opened")?;
+    assert_eq!(rt; session.bounds(), [18i128, 20].as_slice());
+    let first: [u64; 2] = [1, 3];
+    assert_eq!(rt; session.period(&first), Ok(()));
+    want_queues(&rt, &session, [1, 3]);
+    // The link without a rate has spent its burst.
+    assert_eq!(rt; session.period(&[0, 1]), Err(AboveAt { link: 2 }));
+    want_queues(&rt, &session, [1, 3]);
+    for queues in [[1, 2], [1, 1], [1, 0], [0, 1], [0, 0]] {
+        assert_eq!(rt; session.period(&[0, 0]), Ok(()));
+        want_queues(&rt, &session, queues);
+    }
+    assert_eq!(rt; session.state().total_in(), 4);
+    assert_eq!(rt; session.state().total_out(), 4);
+    Ok(())
+}
+
+#[test]
+fn opens_with_what_holds_alone(rt: HostRuntime) -> Result<(), Fail> {
+    let alloc = rt.alloc();
+    let net = tandem(&rt, alloc, 2, 0)?;
+    for (e, fault) in [(0, CertFault::E), (2, CertFault::Balance(1))] {
+        let cert = tandem_cert(alloc, 4, e, [3, 4])?;
+        let met = Session::open(alloc, &net, &cert).err().ok_or("opened")?;
+        assert_eq!(rt; met, OpenFault::Cert(fault));
+    }
     Ok(())
 }
