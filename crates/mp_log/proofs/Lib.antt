@@ -3,3 +3,4 @@ pub mod CountLemmas
 pub mod FedLemmas
 pub mod KindLemmas
 pub mod LengthLemmas
+pub mod HeaderLemmas

@@ -1,2 +1,3 @@
 pub mod Fitting
 pub mod Kinds
+pub mod Heading

@@ -1,0 +1,16 @@
+pub mod FaultLemmas
+pub mod TermLemmas
+pub mod PushLemmas
+pub mod SlackLemmas
+pub mod RateLemmas
+pub mod RowLemmas
+pub mod ProgramLemmas
+pub mod AloneLemmas
+pub mod SumLemmas
+pub mod TurnLemmas
+pub mod PlayLemmas
+pub mod GameLemmas
+pub mod SpreadLemmas
+pub mod VectorLemmas
+pub mod MixLemmas
+pub mod VerdictLemmas

@@ -1,0 +1,10 @@
+use Rattle.std.proofs.Common.{Some}
+use Rattle.mp_model.specs.Network.{junction_at, own}
+use Rattle.mp_flow.specs.Calculating.{flows_of}
+use Rattle.mp_verdict.specs.Passing.{times}
+use Rattle.mp_verdict.specs.Rates.{rate_need}
+use Rattle.mp_admit.proofs.SumLemmas.{Summing}
+use Rattle.mp_admit.proofs.turns.sum_rates.Given as goal
+
+abbrev pub invariant-loop-i : goal.invariant-loop-i
+invariant-loop-i l = Summing (λ k z. times (rate_need l.net (flows_of l.flows) k) (Some z)) l.own l.values l.i l.sum

@@ -1,0 +1,6 @@
+pub mod Flows
+pub mod Constants
+pub mod Stated
+pub mod Bounded
+pub mod Session
+pub mod SessionView

@@ -1,0 +1,5 @@
+use Rattle.mp_verdict.proofs.facts_law.Goals as goal
+use Rattle.mp_verdict.proofs.VectorLaw as Laws
+
+pub returns : goal.returns
+returns c = Laws.facts

@@ -1,0 +1,13 @@
+pub mod Stated
+pub mod Passing
+pub mod Rates
+pub mod Program
+pub mod Game
+pub mod Vector
+pub mod Mixes
+pub mod Verdict
+pub mod Worst
+pub mod VectorLaws
+pub mod Laws
+pub mod WorkedVerdicts
+pub mod TurnLaws
