@@ -18,17 +18,17 @@ use Rattle.mp_netfile.specs.Meaning.{file_meaning}
 use Rattle.mp_run.specs.Running.{IsTaken, StartsWith, RefusedAt, RefusedAbove, HasTooMany}
 use Rattle.mp_run.proofs.AboveLemmas.{not_excessive, not_finished, not_refused_at, not_many}
 use Rattle.mp_cli.specs.declared.command.Command.{Command}
-use Rattle.mp_cli.specs.declared.command.Command.TheVariants.{Run, Show, Check, Refute, Unknown}
+use Rattle.mp_cli.specs.declared.command.Command.TheVariants.{Run, Show, Certify, Check, Refute, Unknown}
 use Rattle.mp_cli.specs.declared.outcome.FileRole.{FileRole}
 use Rattle.mp_cli.specs.declared.outcome.FileRole.TheVariants.{Net}
 use Rattle.mp_cli.specs.declared.outcome.TextKind.TheVariants.{Certificate, Vector}
 use Rattle.mp_cli.specs.declared.outcome.Outcome.{Outcome}
-use Rattle.mp_cli.specs.declared.outcome.Outcome.TheVariants.{Done, Words, Store, Network as BadNetwork, LongText, Text, Certificate as FailsRule, ZeroVector, WeakVector, Overflow, Long, Grammar, Above, LineLimit, Read, Write, NoMemory}
+use Rattle.mp_cli.specs.declared.outcome.Outcome.TheVariants.{Done, Words, Store, Network as BadNetwork, LongText, Text, Critical, Overloaded, Certificate as FailsRule, ZeroVector, WeakVector, Overflow, PivotLimit, Long, Grammar, Above, LineLimit, Read, Write, NoMemory}
 use Rattle.mp_cli.specs.Commands.{command_of, name_of, other_of}
 use Rattle.mp_cli.specs.Statuses.{status_of}
 use Rattle.mp_cli.specs.Others.{Files, OfCert, OfVector, IsBroken, numbers, IsZero, IsWeak}
 use Rattle.mp_cli.specs.Ends.{head, OfNetwork, Acts, Means}
-use Rattle.mp_cli.specs.Complete.{IsThere, IsGoodFile, IsGoodStream, IsExcessiveStream, IsGoodCert, IsGoodVector, GoodFor, IsGood, IsExcessive}
+use Rattle.mp_cli.specs.Complete.{IsThere, IsGoodFile, IsGoodStream, IsExcessiveStream, IsAdmittable, IsGoodCert, IsGoodVector, GoodFor, IsGood, IsExcessive}
 use Rattle.mp_cli.proofs.VectorLemmas.{no_sum}
 
 -- a fact of the file that is there
@@ -111,11 +111,12 @@ good_run (LongText Certificate) net files other left rest was now good is s r w 
 good_run (LongText Vector) net files other left rest was now good is s r w = absurd (let no = is.0 in cc)
 good_run (Text Certificate n) net files other left rest was now good is s r w = absurd (let no = is.0 in cc)
 good_run (Text Vector n) net files other left rest was now good is s r w = absurd (let no = is.0 in cc)
+good_run (Critical against) net files other left rest was now good is s r w = absurd (let no = is.0 in cc)
+good_run (Overloaded against) net files other left rest was now good is s r w = absurd (let no = is.0 in cc)
+good_run (PivotLimit j) net files other left rest was now good is s r w = absurd (let no = is.0 in cc)
 good_run (FailsRule broken) net files other left rest was now good is s r w = absurd (let no = is.0 in cc)
 good_run ZeroVector net files other left rest was now good is s r w = absurd (let no = is.0 in cc)
 good_run WeakVector net files other left rest was now good is s r w = absurd (let no = is.0 in cc)
-good_run (Overflow at.Certificate) net files other left rest was now good is s r w = absurd (let no = is.0.0 in cc)
-good_run (Overflow at.Vector) net files other left rest was now good is s r w = absurd (let no = is.0.0 in cc)
 good_run (Overflow place) net files other left rest was now good is s r w = absurd is.0
 good_run outcome net files other left rest was now good is s r w = absurd is
 
@@ -138,11 +139,12 @@ excessive_run (LongText Certificate) net files other left rest was now stream is
 excessive_run (LongText Vector) net files other left rest was now stream is s r w = absurd (let no = is.0 in cc)
 excessive_run (Text Certificate n) net files other left rest was now stream is s r w = absurd (let no = is.0 in cc)
 excessive_run (Text Vector n) net files other left rest was now stream is s r w = absurd (let no = is.0 in cc)
+excessive_run (Critical against) net files other left rest was now stream is s r w = absurd (let no = is.0 in cc)
+excessive_run (Overloaded against) net files other left rest was now stream is s r w = absurd (let no = is.0 in cc)
+excessive_run (PivotLimit j) net files other left rest was now stream is s r w = absurd (let no = is.0 in cc)
 excessive_run (FailsRule broken) net files other left rest was now stream is s r w = absurd (let no = is.0 in cc)
 excessive_run ZeroVector net files other left rest was now stream is s r w = absurd (let no = is.0 in cc)
 excessive_run WeakVector net files other left rest was now stream is s r w = absurd (let no = is.0 in cc)
-excessive_run (Overflow at.Certificate) net files other left rest was now stream is s r w = absurd (let no = is.0.0 in cc)
-excessive_run (Overflow at.Vector) net files other left rest was now stream is s r w = absurd (let no = is.0.0 in cc)
 excessive_run (Overflow place) net files other left rest was now stream is s r w = absurd is.0
 excessive_run outcome net files other left rest was now stream is s r w = absurd is
 
@@ -157,11 +159,12 @@ good_show (LongText Certificate) net files other left rest was now is s w = absu
 good_show (LongText Vector) net files other left rest was now is s w = absurd (let no = is.0 in cc)
 good_show (Text Certificate n) net files other left rest was now is s w = absurd (let no = is.0 in cc)
 good_show (Text Vector n) net files other left rest was now is s w = absurd (let no = is.0 in cc)
+good_show (Critical against) net files other left rest was now is s w = absurd (let no = is.0 in cc)
+good_show (Overloaded against) net files other left rest was now is s w = absurd (let no = is.0 in cc)
+good_show (PivotLimit j) net files other left rest was now is s w = absurd (let no = is.0 in cc)
 good_show (FailsRule broken) net files other left rest was now is s w = absurd (let no = is.0 in cc)
 good_show ZeroVector net files other left rest was now is s w = absurd (let no = is.0 in cc)
 good_show WeakVector net files other left rest was now is s w = absurd (let no = is.0 in cc)
-good_show (Overflow at.Certificate) net files other left rest was now is s w = absurd (let no = is.0.0 in cc)
-good_show (Overflow at.Vector) net files other left rest was now is s w = absurd (let no = is.0.0 in cc)
 good_show (Overflow place) net files other left rest was now is s w = absurd is.0
 good_show (Long n) net files other left rest was now is s w = absurd (let no = is.0 in cc)
 good_show (Grammar n) net files other left rest was now is s w = absurd (let no = is.0 in cc)
@@ -181,11 +184,13 @@ good_check (LongText Certificate) net files other left rest was now good is s w 
 good_check (LongText Vector) net files other left rest was now good is s w = absurd (let no = is.0 in cc)
 good_check (Text Certificate n) net files other left rest was now good is s w = absurd (let bad = of_there files other (λ bytes. cert_meaning net bytes ≡ Err n) good.file is.1 in let no = sym bad ∙ good.read in cc)
 good_check (Text Vector n) net files other left rest was now good is s w = absurd (let no = is.0 in cc)
+good_check (Critical against) net files other left rest was now good is s w = absurd (let no = is.0 in cc)
+good_check (Overloaded against) net files other left rest was now good is s w = absurd (let no = is.0 in cc)
+good_check (PivotLimit j) net files other left rest was now good is s w = absurd (let no = is.0 in cc)
 good_check (FailsRule broken) net files other left rest was now good is s w = absurd (let bad = cert_of_good net files other (IsBroken net broken) good is.1 in let no = sym bad.told ∙ good.holds in cc)
 good_check ZeroVector net files other left rest was now good is s w = absurd (let no = is.0 in cc)
 good_check WeakVector net files other left rest was now good is s w = absurd (let no = is.0 in cc)
-good_check (Overflow at.Certificate) net files other left rest was now good is s w = absurd (let bad = cert_of_good net files other (λ cert. check_outcome net cert ≡ Err fault.Overflow) good is.0.1 in let no = sym bad ∙ good.holds in cc)
-good_check (Overflow at.Vector) net files other left rest was now good is s w = absurd (let no = is.0.0 in cc)
+good_check (Overflow at.Certificate) net files other left rest was now good is s w = absurd (let bad = cert_of_good net files other (λ cert. check_outcome net cert ≡ Err fault.Overflow) good is.0 in let no = sym bad ∙ good.holds in cc)
 good_check (Overflow place) net files other left rest was now good is s w = absurd is.0
 good_check (Long n) net files other left rest was now good is s w = absurd (let no = is.0 in cc)
 good_check (Grammar n) net files other left rest was now good is s w = absurd (let no = is.0 in cc)
@@ -217,11 +222,13 @@ good_refute (LongText Certificate) net files other left rest was now good is s w
 good_refute (LongText Vector) net files other left rest was now good is s w = absurd (let long = of_there files other (λ bytes. 1048576 < length bytes) good.file is.1 in let few = good.few in omega arith)
 good_refute (Text Certificate n) net files other left rest was now good is s w = absurd (let no = is.0 in cc)
 good_refute (Text Vector n) net files other left rest was now good is s w = absurd (let bad = of_there files other (λ bytes. vector_meaning net bytes ≡ Err n) good.file is.1 in let no = sym bad ∙ good.read in cc)
+good_refute (Critical against) net files other left rest was now good is s w = absurd (let no = is.0 in cc)
+good_refute (Overloaded against) net files other left rest was now good is s w = absurd (let no = is.0 in cc)
+good_refute (PivotLimit j) net files other left rest was now good is s w = absurd (let no = is.0 in cc)
 good_refute (FailsRule broken) net files other left rest was now good is s w = absurd (let no = is.0 in cc)
 good_refute ZeroVector net files other left rest was now good is s w = absurd (not_zero net good.p (vector_of net (numbers good.p) good.shows) (vector_of_good net files other IsZero good is.1))
 good_refute WeakVector net files other left rest was now good is s w = absurd (not_weak net (numbers good.p) good.shows (vector_of_good net files other (IsWeak net) good is.1).below)
-good_refute (Overflow at.Certificate) net files other left rest was now good is s w = absurd (let no = is.0.0 in cc)
-good_refute (Overflow at.Vector) net files other left rest was now good is s w = absurd (let bad = vector_of_good net files other (λ p. weighed net p ≡ None) good is.0.1 in let no = sym bad ∙ good.formed in cc)
+good_refute (Overflow at.Vector) net files other left rest was now good is s w = absurd (let bad = vector_of_good net files other (λ p. weighed net p ≡ None) good is.0 in let no = sym bad ∙ good.formed in cc)
 good_refute (Overflow place) net files other left rest was now good is s w = absurd is.0
 good_refute (Long n) net files other left rest was now good is s w = absurd (let no = is.0 in cc)
 good_refute (Grammar n) net files other left rest was now good is s w = absurd (let no = is.0 in cc)
@@ -229,6 +236,31 @@ good_refute (Above n p l) net files other left rest was now good is s w = absurd
 good_refute LineLimit net files other left rest was now good is s w = absurd (let no = is.0 in cc)
 good_refute Read net files other left rest was now good is s w = absurd (let no = is.0 in cc)
 good_refute outcome net files other left rest was now good is s w = absurd is
+
+-- a network that the stated calculation admits is certified
+good_certify : (outcome : Outcome) (net : Network) (files : Files) (other : List ℕ) (left rest was now : Option (List ℕ)) → IsAdmittable net → Acts outcome Certify net files other left rest was now
+    → ((file : FileRole) → outcome ≡ Store file → ⊥) → (outcome ≡ Write → ⊥) → IsDoneUnlessMemory (status_of outcome)
+good_certify Done net files other left rest was now good is s w = inl refl
+good_certify NoMemory net files other left rest was now good is s w = inr refl
+good_certify (Store file) net files other left rest was now good is s w = absurd (s file refl)
+good_certify Write net files other left rest was now good is s w = absurd (w refl)
+good_certify (Critical against) net files other left rest was now good is s w = absurd (let no = sym good.reached ∙ is.1.reached in cc)
+good_certify (Overloaded against) net files other left rest was now good is s w = absurd (let no = sym good.reached ∙ is.1.reached in cc)
+good_certify (Overflow place) net files other left rest was now good is s w = absurd (let no = sym good.reached ∙ is.0 in cc)
+good_certify (PivotLimit j) net files other left rest was now good is s w = absurd (let no = sym good.reached ∙ is.1 in cc)
+good_certify (LongText Certificate) net files other left rest was now good is s w = absurd (let no = is.0 in cc)
+good_certify (LongText Vector) net files other left rest was now good is s w = absurd (let no = is.0 in cc)
+good_certify (Text Certificate n) net files other left rest was now good is s w = absurd (let no = is.0 in cc)
+good_certify (Text Vector n) net files other left rest was now good is s w = absurd (let no = is.0 in cc)
+good_certify (FailsRule broken) net files other left rest was now good is s w = absurd (let no = is.0 in cc)
+good_certify ZeroVector net files other left rest was now good is s w = absurd (let no = is.0 in cc)
+good_certify WeakVector net files other left rest was now good is s w = absurd (let no = is.0 in cc)
+good_certify (Long n) net files other left rest was now good is s w = absurd (let no = is.0 in cc)
+good_certify (Grammar n) net files other left rest was now good is s w = absurd (let no = is.0 in cc)
+good_certify (Above n p l) net files other left rest was now good is s w = absurd (let no = is.0 in cc)
+good_certify LineLimit net files other left rest was now good is s w = absurd (let no = is.0 in cc)
+good_certify Read net files other left rest was now good is s w = absurd (let no = is.0 in cc)
+good_certify outcome net files other left rest was now good is s w = absurd is
 
 -- on a good network file the command acts on its network
 acts_on : (outcome : Outcome) (command : Command) (files : Files) (name other : List ℕ) (left rest was now : Option (List ℕ)) (good : IsGoodFile files name) → (command ≡ Unknown → ⊥) → ((file : FileRole) → outcome ≡ Store file → ⊥)
@@ -246,6 +278,7 @@ good_command : (command : Command) (outcome : Outcome) (net : Network) (files : 
     → ((file : FileRole) → outcome ≡ Store file → ⊥) → (outcome ≡ Read → ⊥) → (outcome ≡ Write → ⊥) → Acts outcome command net files other left rest was now → IsDoneUnlessMemory (status_of outcome)
 good_command Run outcome net files other left rest was now good s r w is = good_run outcome net files other left rest was now good is s r w
 good_command Show outcome net files other left rest was now good s r w is = good_show outcome net files other left rest was now is s w
+good_command Certify outcome net files other left rest was now good s r w is = good_certify outcome net files other left rest was now good is s w
 good_command Check outcome net files other left rest was now good s r w is = good_check outcome net files other left rest was now good is s w
 good_command Refute outcome net files other left rest was now good s r w is = good_refute outcome net files other left rest was now good is s w
 good_command Unknown outcome net files other left rest was now good s r w is = absurd good

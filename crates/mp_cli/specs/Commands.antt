@@ -2,7 +2,7 @@
 use Rattle.std.specs.Prelude.{ℕ, Bool, if◌then◌else◌, List, [], ◌∷◌, codes, nat_eq}
 use Rattle.std.specs.Cmp.Lexicographic.{pointwise}
 use Rattle.mp_cli.specs.declared.command.Command.{Command}
-use Rattle.mp_cli.specs.declared.command.Command.TheVariants.{Run, Show, Check, Refute, Unknown}
+use Rattle.mp_cli.specs.declared.command.Command.TheVariants.{Run, Show, Certify, Check, Refute, Unknown}
 
 -- The word is `run`.
 abbrev pub is_run : List ℕ → Bool
@@ -11,6 +11,10 @@ is_run word = pointwise nat_eq word (codes "run")
 -- The word is `show`.
 abbrev pub is_show : List ℕ → Bool
 is_show word = pointwise nat_eq word (codes "show")
+
+-- The word is `certify`.
+abbrev pub is_certify : List ℕ → Bool
+is_certify word = pointwise nat_eq word (codes "certify")
 
 -- The word is `check`.
 abbrev pub is_check : List ℕ → Bool
@@ -22,7 +26,7 @@ is_refute word = pointwise nat_eq word (codes "refute")
 
 -- A word before the name of a network asks for a command.
 abbrev pub command_on_net : List ℕ → Command
-command_on_net word = if is_run word then Run else if is_show word then Show else Unknown
+command_on_net word = if is_run word then Run else if is_show word then Show else if is_certify word then Certify else Unknown
 
 -- A word before the name of a network and that of another file asks for a command.
 abbrev pub command_on_both : List ℕ → Command

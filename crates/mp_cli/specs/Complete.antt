@@ -10,10 +10,13 @@ use Rattle.mp_cert.specs.Checking.{check_outcome}
 use Rattle.mp_cert.specs.TextMeaning.{cert_meaning, vector_meaning}
 use Rattle.mp_cert.specs.Weighing.{weighed}
 use Rattle.mp_cert.specs.declared.types.Weighed.{Weighed}
+use Rattle.mp_num.specs.Fraction.{Fraction}
+use Rattle.mp_verdict.specs.Stated.{Reached}
+use Rattle.mp_verdict.specs.Verdict.{verdict, Admitted}
 use Rattle.mp_netfile.specs.Meaning.{file_meaning}
 use Rattle.mp_run.specs.Running.{StartsWith, IsAboveAt}
 use Rattle.mp_cli.specs.declared.command.Command.{Command}
-use Rattle.mp_cli.specs.declared.command.Command.TheVariants.{Run, Show, Check, Refute, Unknown}
+use Rattle.mp_cli.specs.declared.command.Command.TheVariants.{Run, Show, Certify, Check, Refute, Unknown}
 use Rattle.mp_cli.specs.Commands.{command_of, name_of, other_of}
 use Rattle.mp_cli.specs.Others.{Files, numbers}
 
@@ -67,10 +70,18 @@ pub record IsGoodVector (net : Network) (files : Files) (other : List ℕ) : Typ
   pub formed : weighed net p ≡ Some sums
   pub shows : ShowsOverload net (numbers p) ⊎ IsTight net (numbers p)
 
+-- The stated calculation of the verdict admits the network: nothing passes 128 bits, and the greatest slack is above 0.
+pub record IsAdmittable (net : Network) : Type 0 where
+  pub cert : Cert
+  pub vector : List ℤ
+  pub slack : Fraction
+  pub reached : verdict net (weighed net) ≡ Reached (Admitted cert vector slack)
+
 -- What a command is given beside the network is good.
 abbrev pub GoodFor : Command → Network → Files → List ℕ → Option (List ℕ) → Type 0
 GoodFor Run net files other left = IsGoodStream net left
 GoodFor Show net files other left = Unit {0}
+GoodFor Certify net files other left = IsAdmittable net
 GoodFor Check net files other left = IsGoodCert net files other
 GoodFor Refute net files other left = IsGoodVector net files other
 GoodFor Unknown net files other left = ⊥

@@ -10,17 +10,19 @@ use Rattle.mp_cert.specs.Weighing.{weighed}
 use Rattle.mp_cert.specs.declared.types.CertFault.TheVariants as fault
 use Rattle.mp_flow.specs.declared.network.Place.{Place}
 use Rattle.mp_flow.specs.declared.network.Place.TheVariants as at
+use Rattle.mp_verdict.specs.Stated.{PassesAt, LimitAt}
+use Rattle.mp_verdict.specs.Verdict.{verdict}
 use Rattle.mp_netfile.specs.Meaning.{text_meaning, file_meaning}
 use Rattle.mp_run.specs.Running.{Finished, RefusedAt, RefusedAbove, HasTooMany, StopsReading, StopsWriting}
 use Rattle.mp_cli.specs.declared.command.Command.{Command}
-use Rattle.mp_cli.specs.declared.command.Command.TheVariants.{Run, Show, Check, Refute, Unknown}
+use Rattle.mp_cli.specs.declared.command.Command.TheVariants.{Run, Show, Certify, Check, Refute, Unknown}
 use Rattle.mp_cli.specs.declared.outcome.FileRole.TheVariants.{Net, Other}
 use Rattle.mp_cli.specs.declared.outcome.TextKind.{TextKind}
 use Rattle.mp_cli.specs.declared.outcome.TextKind.TheVariants.{Certificate, Vector}
 use Rattle.mp_cli.specs.declared.outcome.Outcome.{Outcome}
-use Rattle.mp_cli.specs.declared.outcome.Outcome.TheVariants.{Done, Words, Store, Network as BadNetwork, LongText, Text, Certificate as FailsRule, ZeroVector, WeakVector, Overflow, Long, Grammar, Above, LineLimit, Read, Write, NoMemory}
+use Rattle.mp_cli.specs.declared.outcome.Outcome.TheVariants.{Done, Words, Store, Network as BadNetwork, LongText, Text, Critical, Overloaded, Certificate as FailsRule, ZeroVector, WeakVector, Overflow, PivotLimit, Long, Grammar, Above, LineLimit, Read, Write, NoMemory}
 use Rattle.mp_cli.specs.Commands.{command_of, name_of, other_of}
-use Rattle.mp_cli.specs.Others.{Files, HasOther, OfCert, OfVector, IsAccepted, IsBroken, IsRefuting, numbers, IsZero, IsWeak}
+use Rattle.mp_cli.specs.Others.{Files, HasOther, OfCert, OfVector, IsAccepted, IsBroken, IsRefuting, numbers, IsZero, IsWeak, IsCertified, IsShownCritical, IsShownOverloaded}
 use Rattle.mp_cli.specs.Statuses.{status_of}
 use Rattle.mp_cli.specs.Messages.{message_of}
 
@@ -49,6 +51,7 @@ ShowsPart net before after = (text : List ℕ) × (text_meaning text ≡ Ok net)
 abbrev pub Did : Command → Network → Files → List ℕ → Option (List ℕ) → Option (List ℕ) → Option (List ℕ) → Option (List ℕ) → Type 0
 Did Run net files other left rest was now = Finished net head left rest was now
 Did Show net files other left rest was now = (rest ≡ left) × Tells was now (Shows net)
+Did Certify net files other left rest was now = (rest ≡ left) × IsCertified net (λ text. Tells was now (λ before after. after ≡ before ++ text))
 Did Check net files other left rest was now = (rest ≡ left) × OfCert net files other (λ cert. IsAccepted net cert (λ line. Tells was now (λ before after. after ≡ before ++ line)))
 Did Refute net files other left rest was now = (rest ≡ left) × OfVector net files other (λ p. IsRefuting net (numbers p) (λ line. Tells was now (λ before after. after ≡ before ++ line)))
 Did Unknown net files other left rest was now = ⊥
@@ -57,6 +60,7 @@ Did Unknown net files other left rest was now = ⊥
 abbrev pub WasCutShort : Command → Network → Files → List ℕ → Option (List ℕ) → Option (List ℕ) → Option (List ℕ) → Option (List ℕ) → Type 0
 WasCutShort Run net files other left rest was now = StopsWriting net head left rest was now
 WasCutShort Show net files other left rest was now = (rest ≡ left) × Tells was now (ShowsPart net)
+WasCutShort Certify net files other left rest was now = (rest ≡ left) × IsCertified net (λ text. Tells was now (GainsPrefix text))
 WasCutShort Check net files other left rest was now = (rest ≡ left) × OfCert net files other (λ cert. IsAccepted net cert (λ line. Tells was now (GainsPrefix line)))
 WasCutShort Refute net files other left rest was now = (rest ≡ left) × OfVector net files other (λ p. IsRefuting net (numbers p) (λ line. Tells was now (GainsPrefix line)))
 WasCutShort Unknown net files other left rest was now = ⊥
@@ -72,10 +76,11 @@ IsFirstBad Certificate net n bytes = cert_meaning net bytes ≡ Err n
 IsFirstBad Vector net n bytes = vector_meaning net bytes ≡ Err n
 
 -- A calculation of the command passes 128 bits at this place.
-abbrev pub Overflows : Place → Command → Network → Files → List ℕ → Type 0
-Overflows at.Certificate command net files other = (command ≡ Check) × OfCert net files other (λ cert. check_outcome net cert ≡ Err fault.Overflow)
-Overflows at.Vector command net files other = (command ≡ Refute) × OfVector net files other (λ p. weighed net p ≡ None)
-Overflows place command net files other = ⊥
+abbrev pub Overflows : Command → Place → Network → Files → List ℕ → Type 0
+Overflows Certify place net files other = verdict net (weighed net) ≡ PassesAt place
+Overflows Check at.Certificate net files other = OfCert net files other (λ cert. check_outcome net cert ≡ Err fault.Overflow)
+Overflows Refute at.Vector net files other = OfVector net files other (λ p. weighed net p ≡ None)
+Overflows command place net files other = ⊥
 
 -- This is what each outcome says of a command on a network: of the other file, the input and the output.
 abbrev pub Acts : Outcome → Command → Network → Files → List ℕ → Option (List ℕ) → Option (List ℕ) → Option (List ℕ) → Option (List ℕ) → Type 0
@@ -88,7 +93,10 @@ Acts (Text kind n) command net files other left rest was now = IsKindOf kind com
 Acts (FailsRule broken) command net files other left rest was now = (command ≡ Check) × OfCert net files other (IsBroken net broken) × IsUntouched left rest was now
 Acts ZeroVector command net files other left rest was now = (command ≡ Refute) × OfVector net files other IsZero × IsUntouched left rest was now
 Acts WeakVector command net files other left rest was now = (command ≡ Refute) × OfVector net files other (IsWeak net) × IsUntouched left rest was now
-Acts (Overflow place) command net files other left rest was now = Overflows place command net files other × IsUntouched left rest was now
+Acts (Overflow place) command net files other left rest was now = Overflows command place net files other × IsUntouched left rest was now
+Acts (Critical against) command net files other left rest was now = (command ≡ Certify) × IsShownCritical net against.p × IsUntouched left rest was now
+Acts (Overloaded against) command net files other left rest was now = (command ≡ Certify) × IsShownOverloaded net against.p × IsUntouched left rest was now
+Acts (PivotLimit j) command net files other left rest was now = (command ≡ Certify) × (verdict net (weighed net) ≡ LimitAt j) × IsUntouched left rest was now
 Acts (Long n) command net files other left rest was now = (command ≡ Run) × RefusedAt net head long_line n left rest was now
 Acts (Grammar n) command net files other left rest was now = (command ≡ Run) × RefusedAt net head bad_line n left rest was now
 Acts (Above n p l) command net files other left rest was now = (command ≡ Run) × RefusedAbove net head n p l left rest was now

@@ -7,6 +7,7 @@ use Rattle.mp_net.specs.declared.fault.Section.TheVariants.{Top, Link, Movement,
 use Rattle.mp_net.specs.declared.fault.Spot.{Spot}
 use Rattle.mp_cert.specs.declared.types.CertFault.{CertFault}
 use Rattle.mp_cert.specs.declared.types.CertFault.TheVariants.{D, E, H, Whole, Part, Mass, Serve, Balance, Overflow}
+use Rattle.mp_cert.specs.Texts.{vector_text}
 use Rattle.mp_flow.specs.declared.network.Place.{Place}
 use Rattle.mp_flow.specs.declared.network.Place.TheVariants as at
 use Rattle.mp_cli.specs.declared.outcome.TextKind.{TextKind}
@@ -81,13 +82,16 @@ words_of end.Words = codes "words"
 words_of (end.Network rule spot) = (codes "network N" ++ decimal (rule_number rule)) ++ spot_text spot
 words_of (end.LongText kind) = kind_text kind ++ codes "long"
 words_of (end.Text kind n) = kind_text kind ++ line_text n
+words_of (end.Critical against) = codes "network critical"
+words_of (end.Overloaded against) = codes "network overloaded"
 words_of (end.Certificate fault) = codes "certificate fails " ++ fault_text fault
 words_of end.ZeroVector = codes "vector fails zero"
 words_of end.WeakVector = codes "vector fails weak"
 words_of (end.Overflow place) = codes "overflow " ++ place_text place
+words_of (end.PivotLimit j) = codes "pivots " ++ decimal j
 words_of (end.Long n) = line_text n ++ codes " long"
 words_of (end.Grammar n) = line_text n ++ codes " grammar"
-words_of (end.Above n p l) = (((line_text n ++ codes " above period ") ++ decimal p) ++ codes " link ") ++ decimal l
+words_of (end.Above n p l) = (line_text n ++ (codes " above period " ++ decimal p)) ++ (codes " link " ++ decimal l)
 words_of end.LineLimit = codes "lines"
 words_of end.Read = codes "read"
 words_of end.Write = codes "write"
@@ -95,8 +99,14 @@ words_of end.NoMemory = codes "memory"
 words_of end.Done = []
 words_of (end.Store file) = []
 
--- This is the line of an outcome, with the name of the file at a fault of the store: none where all was done.
+-- Behind the line of a critical or overloaded network stands the vector that shows it.
+abbrev pub vector_behind : Outcome → List ℕ
+vector_behind (end.Critical against) = vector_text against.p
+vector_behind (end.Overloaded against) = vector_text against.p
+vector_behind outcome = []
+
+-- This is what is told of an outcome, with the name of the file at a fault of the store: nothing where all was done.
 abbrev pub message_of : List ℕ → Outcome → List ℕ
 message_of name end.Done = []
 message_of name (end.Store file) = codes "store " ++ (name ++ 10 ∷ [])
-message_of name outcome = words_of outcome ++ codes "\n"
+message_of name outcome = (words_of outcome ++ codes "\n") ++ vector_behind outcome

@@ -3,15 +3,21 @@ use Rattle.std.specs.Prelude.{◌≡◌, ◌≤◌, ◌<◌, ◌⊎◌, ◌*◌,
 use Rattle.std.specs.List.{All}
 use Rattle.mp_edge.specs.Outside.{OfFile}
 use Rattle.mp_model.specs.Certificate.{Cert, Certifies, Carries}
-use Rattle.mp_model.specs.Load.{IsVector, ShowsOverload, IsTight, load, capacity}
+use Rattle.mp_model.specs.Load.{IsVector, ShowsOverload, IsTight, IsCritical, load, capacity}
 use Rattle.mp_model.specs.Network.{Network, entry}
 use Rattle.mp_model.specs.Slack.{IsSlack}
 use Rattle.mp_cert.specs.Checking.{check_outcome}
 use Rattle.mp_cert.specs.FirstBroken.{IsFirstFault}
 use Rattle.mp_cert.specs.TextMeaning.{cert_meaning, vector_meaning}
+use Rattle.mp_cert.specs.Texts.{cert_text}
+use Rattle.mp_cert.specs.Weighing.{weighed}
 use Rattle.mp_cert.specs.declared.types.CertFault.{CertFault}
+use Rattle.mp_num.specs.Fraction.{Fraction}
+use Rattle.mp_verdict.specs.Laws.{IsAdmitted}
+use Rattle.mp_verdict.specs.Stated.{Reached}
+use Rattle.mp_verdict.specs.Verdict.{verdict, Admitted, Critical, Overloaded}
 use Rattle.mp_cli.specs.declared.command.Command.{Command}
-use Rattle.mp_cli.specs.declared.command.Command.TheVariants.{Run, Show, Check, Refute, Unknown}
+use Rattle.mp_cli.specs.declared.command.Command.TheVariants.{Run, Show, Certify, Check, Refute, Unknown}
 
 -- The files are told as names and bytes, or not at all.
 abbrev pub Files : Type 0
@@ -81,3 +87,24 @@ IsZero p = All (λ n. n ≡ pos 0) p
 pub record IsWeak (net : Network) (p : List ℤ) : Type 0 where
   pub vector : IsVector net (numbers p)
   pub below : load net (entry (numbers p)) < net.per * capacity net (entry (numbers p))
+
+-- A network is certified: by the stated calculation it is admitted with a certificate, whose slack is the greatest, and the certificate's text was written as said.
+pub record IsCertified (net : Network) (IsWritten : List ℕ → Type 0) : Type 0 where
+  pub cert : Cert
+  pub vector : List ℤ
+  pub slack : Fraction
+  pub reached : verdict net (weighed net) ≡ Reached (Admitted cert vector slack)
+  pub admitted : IsAdmitted net cert vector slack
+  pub written : IsWritten (cert_text cert)
+
+-- A network is critical, as the vector of the stated calculation shows.
+pub record IsShownCritical (net : Network) (vector : List ℤ) : Type 0 where
+  pub reached : verdict net (weighed net) ≡ Reached (Critical vector)
+  pub tight : IsTight net (numbers vector)
+  pub critical : IsCritical net
+
+-- A network is overloaded, as the vector of the stated calculation shows, and so does not carry its rates.
+pub record IsShownOverloaded (net : Network) (vector : List ℤ) : Type 0 where
+  pub reached : verdict net (weighed net) ≡ Reached (Overloaded vector)
+  pub shows : ShowsOverload net (numbers vector)
+  pub none : ¬ Carries net

@@ -1,16 +1,17 @@
-//! The commands that check a certificate, or a vector against the network.
+//! The commands on certificates, and on vectors against the network.
 ghost use Rattle.std.specs.Prelude.{◌≡◌, ◌≤◌, ◌↔◌, ℕ, List, Option, IsTrue, length, unsigned_abs};
 ghost use Rattle.mp_edge.specs.Outside.{Rose, Tells, Puts, HasCause};
 ghost use Rattle.mp_cli.specs.Outcomes.{outcome_of_fault, word_of};
 ghost use Rattle.mp_cli.specs.Ends.{Acts};
-ghost use Rattle.mp_cli.specs.Others.{accepted_line, sums_line, IsZero};
+ghost use Rattle.mp_cli.specs.Others.{Files, accepted_line, sums_line, IsZero};
 
 use crate::command::Command;
 use crate::opening::{open_cert, open_vector};
 use crate::outcome::{FileRole, Outcome};
-use mp_cert::{CertFault, Overflow, Weighed, slack, weigh};
+use mp_admit::{Verdict, admit};
+use mp_cert::{CertFault, Weighed, print_cert, slack, weigh};
 use mp_edge::{Failed, Sink, Store};
-use mp_flow::Place;
+use mp_flow::{CalcFault, Place};
 use mp_log::{push_number, push_text};
 use mp_net::Net;
 use mp_num::Frac;
@@ -74,6 +75,26 @@ fn is_zero(p: &[i128]) -> bool
     ensures { IsTrue result ↔ IsZero p.now }
 {
     p.iter().all(|n| *n == 0)
+}
+
+/// Finds the verdict on the network, and writes the certificate of the greatest slack.
+pub fn certify<Out: Sink>(alloc: Global, net: &Net, out: &mut Out) -> Outcome
+    ensures acts { (files : Files) (other : List ℕ) (left : Option (List ℕ)) → Acts result Command.Certify net.now files other left left (Out.held out.old) (Out.held out.new) }
+    ensures later { Out.faults out.old ≤ Out.faults out.new }
+    ensures write { result ≡ Outcome.Write → Rose (Out.faults out.old) (Out.faults out.new) }
+{
+    let _ = net.shares();
+    match admit(alloc, net) {
+        Ok(Verdict::Admitted { cert, .. }) => match print_cert(out, &cert) {
+            Ok(()) => Outcome::Done,
+            Err(Failed) => Outcome::Write,
+        },
+        Ok(Verdict::Critical { against }) => Outcome::Critical(against),
+        Ok(Verdict::Overloaded { against }) => Outcome::Overloaded(against),
+        Err(CalcFault::Overflow(place)) => Outcome::Overflow(place),
+        Err(CalcFault::PivotLimit(j)) => Outcome::PivotLimit(j),
+        Err(CalcFault::NoMemory) => Outcome::NoMemory,
+    }
 }
 
 /// Checks the certificate in the other file, and writes its slack.

@@ -1,6 +1,6 @@
 //! The words of the command line.
 ghost use Rattle.std.specs.Prelude.{◌≡◌, map, string_bytes};
-ghost use Rattle.mp_cli.specs.Commands.{command_of, command_on_net, command_on_both, is_run, is_show, is_check, is_refute, name_of, other_of};
+ghost use Rattle.mp_cli.specs.Commands.{command_of, command_on_net, command_on_both, is_run, is_show, is_certify, is_check, is_refute, name_of, other_of};
 
 /// What the words ask for.
 #[derive(Clone, Copy, Debug, PartialEq, Eq)]
@@ -9,6 +9,8 @@ pub enum Command {
     Run,
     /// `show NET`: the network, as a file.
     Show,
+    /// `certify NET`: the certificate of the greatest slack, or the vector that shows why there is none.
+    Certify,
     /// `check NET CERT`: whether the certificate holds for the network, with its slack.
     Check,
     /// `refute NET VECTOR`: the load and the capacity of a vector against the network.
@@ -27,6 +29,12 @@ fn is_show(word: &str) -> bool
     ensures { result ≡ is_show word.now }
 {
     word == "show"
+}
+
+fn is_certify(word: &str) -> bool
+    ensures { result ≡ is_certify word.now }
+{
+    word == "certify"
 }
 
 fn is_check(word: &str) -> bool
@@ -49,6 +57,8 @@ fn command_on_net(word: &str) -> Command
         Command::Run
     } else if is_show(word) {
         Command::Show
+    } else if is_certify(word) {
+        Command::Certify
     } else {
         Command::Unknown
     }

@@ -1,10 +1,11 @@
 //! The line on the error output.
 ghost use Rattle.std.specs.Prelude.{◌≡◌, ◌≤◌, ◌+◌, ◌++◌, ◌∷◌, [], length, codes, decimal};
 ghost use Rattle.mp_edge.specs.Outside.{Tells, Puts, HasCause};
-ghost use Rattle.mp_cli.specs.Messages.{rule_number, spot_text, kind_text, fault_text, place_text, message_of, words_of};
+ghost use Rattle.mp_cli.specs.Messages.{rule_number, spot_text, kind_text, fault_text, place_text, message_of, words_of, vector_behind};
 
 use crate::outcome::{Outcome, TextKind};
-use mp_cert::CertFault;
+use mp_cert::{CertFault, print_against};
+use itoa::Integer;
 use mp_edge::{Failed, Sink};
 use mp_flow::Place;
 use mp_log::{push_number, push_text};
@@ -87,9 +88,9 @@ fn push_fault(line: &mut LineSink, fault: CertFault)
 }
 
 // Appends a word and a number.
-fn push_numbered(line: &mut LineSink, word: &[u8], number: u16)
-    requires { (length line.old.held ≤ 300) × (length word.now ≤ 10) }
-    ensures held { line.new.held ≡ line.old.held ++ (word.now ++ decimal number) }
+fn push_numbered<I: Integer>(line: &mut LineSink, word: &[u8], number: I)
+    requires { (length line.old.held ≤ 300) × (length word.now ≤ 20) }
+    ensures held { line.new.held ≡ line.old.held ++ (word.now ++ I.text number) }
     ensures few { length line.new.held ≤ length line.old.held + 50 }
 {
     push_text(line, word);
@@ -125,9 +126,9 @@ fn push_line(line: &mut LineSink, number: u64)
 }
 
 // Makes the line of an outcome that has one and is no fault of the store, but for its line feed.
-fn push_message(line: &mut LineSink, outcome: Outcome)
+fn push_message(line: &mut LineSink, outcome: &Outcome)
     requires { line.old.held ≡ [] }
-    ensures held { line.new.held ≡ words_of outcome }
+    ensures held { line.new.held ≡ words_of outcome.now }
     ensures few { length line.new.held ≤ 300 }
 {
     match outcome {
@@ -135,33 +136,36 @@ fn push_message(line: &mut LineSink, outcome: Outcome)
         Outcome::Words => push_text(line, b"words"),
         Outcome::Network { rule, spot } => {
             push_text(line, b"network N");
-            push_number(line, rule_number(rule));
-            push_spot(line, spot);
+            push_number(line, rule_number(*rule));
+            push_spot(line, *spot);
         }
         Outcome::LongText(kind) => {
-            push_kind(line, kind);
+            push_kind(line, *kind);
             push_text(line, b"long");
         }
         Outcome::Text { kind, line: number } => {
-            push_kind(line, kind);
-            push_line(line, number);
+            push_kind(line, *kind);
+            push_line(line, *number);
         }
+        Outcome::Critical(_) => push_text(line, b"network critical"),
+        Outcome::Overloaded(_) => push_text(line, b"network overloaded"),
         Outcome::Certificate(fault) => {
             push_text(line, b"certificate fails ");
-            push_fault(line, fault);
+            push_fault(line, *fault);
         }
         Outcome::ZeroVector => push_text(line, b"vector fails zero"),
         Outcome::WeakVector => push_text(line, b"vector fails weak"),
         Outcome::Overflow(place) => {
             push_text(line, b"overflow ");
-            push_place(line, place);
+            push_place(line, *place);
         }
+        Outcome::PivotLimit(j) => push_numbered(line, b"pivots ", *j),
         Outcome::Long { line: number } => {
-            push_line(line, number);
+            push_line(line, *number);
             push_text(line, b" long");
         }
         Outcome::Grammar { line: number } => {
-            push_line(line, number);
+            push_line(line, *number);
             push_text(line, b" grammar");
         }
         Outcome::Above {
@@ -169,12 +173,9 @@ fn push_message(line: &mut LineSink, outcome: Outcome)
             period,
             link,
         } => {
-            push_text(line, b"line ");
-            push_number(line, number);
-            push_text(line, b" above period ");
-            push_number(line, period);
-            push_text(line, b" link ");
-            push_number(line, link);
+            push_line(line, *number);
+            push_numbered(line, b" above period ", *period);
+            push_numbered(line, b" link ", *link);
         }
         Outcome::LineLimit => push_text(line, b"lines"),
         Outcome::Read => push_text(line, b"read"),
@@ -193,10 +194,22 @@ fn put_store<Er: Sink>(err: &mut Er, name: &str) -> Result<(), Failed>
     err.put(b"\n")
 }
 
-/// Puts the line of an outcome other than `Done`; a fault of the store names the file.
-pub fn put_message<Er: Sink>(err: &mut Er, outcome: Outcome, name: &str) -> Result<(), Failed>
-    requires { ¬ (outcome ≡ Outcome.Done) }
-    ensures bytes { Tells (Er.held err.old) (Er.held err.new) (Puts result (message_of name.now outcome)) }
+// Puts the vector that shows a critical or overloaded network.
+fn put_vector<Er: Sink>(err: &mut Er, outcome: &Outcome) -> Result<(), Failed>
+    ensures bytes { Tells (Er.held err.old) (Er.held err.new) (Puts result (vector_behind outcome.now)) }
+    ensures cause { HasCause (Er.faults err.old) (Er.faults err.new) result }
+{
+    match outcome {
+        Outcome::Critical(against) | Outcome::Overloaded(against) => print_against(err, against),
+        _ => Ok(()),
+    }
+}
+
+/// Puts what is told of an outcome other than `Done`: its line, where a fault of the store names the
+/// file, and the vector that shows a critical or overloaded network.
+pub fn put_message<Er: Sink>(err: &mut Er, outcome: &Outcome, name: &str) -> Result<(), Failed>
+    requires { ¬ (outcome.now ≡ Outcome.Done) }
+    ensures bytes { Tells (Er.held err.old) (Er.held err.new) (Puts result (message_of name.now outcome.now)) }
     ensures cause { HasCause (Er.faults err.old) (Er.faults err.new) result }
 {
     if let Outcome::Store(_) = outcome {
@@ -205,5 +218,6 @@ pub fn put_message<Er: Sink>(err: &mut Er, outcome: Outcome, name: &str) -> Resu
     let mut line = LineSink::new();
     push_message(&mut line, outcome);
     push_text(&mut line, b"\n");
-    err.put(line.bytes())
+    err.put(line.bytes())?;
+    put_vector(err, outcome)
 }

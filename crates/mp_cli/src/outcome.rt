@@ -2,9 +2,9 @@
 ghost use Rattle.std.specs.Prelude.{◌≡◌};
 ghost use Rattle.mp_cli.specs.Statuses.{status_of};
 
-use mp_cert::CertFault;
+use mp_cert::{Against, CertFault};
 use mp_flow::Place;
-use mp_net::{LinkNo, NetRule, Spot};
+use mp_net::{JunctionNo, LinkNo, NetRule, Spot};
 
 /// One of the files that the words name.
 #[derive(Clone, Copy, Debug, PartialEq, Eq)]
@@ -25,7 +25,7 @@ pub enum TextKind {
 }
 
 /// How a command ends.
-#[derive(Clone, Copy, Debug, PartialEq, Eq)]
+#[derive(Debug, Drop)]
 pub enum Outcome {
     /// It did what was asked.
     Done,
@@ -39,6 +39,10 @@ pub enum Outcome {
     LongText(TextKind),
     /// The line of the other file is the first that is not in its grammar.
     Text { kind: TextKind, line: u64 },
+    /// The network is critical, as the vector shows.
+    Critical(Against),
+    /// The network is overloaded, as the vector shows.
+    Overloaded(Against),
     /// The certificate breaks the rule first.
     Certificate(CertFault),
     /// All numbers of the vector are 0.
@@ -47,6 +51,8 @@ pub enum Outcome {
     WeakVector,
     /// A calculation passes 128 bits at this place.
     Overflow(Place),
+    /// The turns of the game end at this junction first.
+    PivotLimit(JunctionNo),
     /// The line of the stream has more than 2,048 bytes.
     Long { line: u64 },
     /// The line of the stream is not in the grammar.
@@ -69,16 +75,18 @@ pub enum Outcome {
 }
 
 /// The status that the program ends with.
-pub fn status_of(outcome: Outcome) -> u8
-    ensures { result ≡ status_of outcome }
+pub fn status_of(outcome: &Outcome) -> u8
+    ensures { result ≡ status_of outcome.now }
 {
     match outcome {
         Outcome::Done => 0,
         Outcome::Words => 1,
         Outcome::Store(_) => 2,
         Outcome::Network { .. } | Outcome::LongText(_) | Outcome::Text { .. } => 3,
+        Outcome::Critical(_) | Outcome::Overloaded(_) => 4,
         Outcome::Certificate(_) | Outcome::ZeroVector | Outcome::WeakVector => 4,
         Outcome::Overflow(_) => 5,
+        Outcome::PivotLimit(_) => 6,
         Outcome::Long { .. } | Outcome::Grammar { .. } => 7,
         Outcome::Above { .. } => 8,
         Outcome::LineLimit => 9,

@@ -7,7 +7,7 @@ ghost use Rattle.mp_cli.specs.Outcomes.{outcome_of};
 ghost use Rattle.mp_cli.specs.Complete.{IsGood, IsExcessive};
 ghost use Rattle.mp_cli.specs.Others.{Files};
 
-use crate::checking::{check, refute};
+use crate::checking::{certify, check, refute};
 use crate::command::{Command, command_of, name_of, other_of};
 use crate::message::put_message;
 use crate::opening::open_net;
@@ -91,6 +91,7 @@ fn obey<St: Store, In: Source, Out: Sink>(
     };
     match command {
         Command::Run => run(alloc, &net, input, out),
+        Command::Certify => certify(alloc, &net, out),
         Command::Check => check(alloc, &net, other, store, out),
         Command::Refute => refute(alloc, &net, other, store, out),
         Command::Show => show(alloc, &net, out),
@@ -99,8 +100,8 @@ fn obey<St: Store, In: Source, Out: Sink>(
 }
 
 // The file that the line of an outcome names, if it names one.
-fn named_in<'a>(outcome: Outcome, name: &'a str, other: &'a str) -> &'a str
-    ensures { result.now ≡ named_as outcome name.now other.now }
+fn named_in<'a>(outcome: &Outcome, name: &'a str, other: &'a str) -> &'a str
+    ensures { result.now ≡ named_as outcome.now name.now other.now }
 {
     match outcome {
         Outcome::Store(FileRole::Other) => other,
@@ -111,12 +112,13 @@ fn named_in<'a>(outcome: Outcome, name: &'a str, other: &'a str) -> &'a str
 /// The whole program: does what the words ask for, and answers the status to end with.
 ///
 /// `run NET` writes the log of the run of the stream on `input`; `show NET` writes the network as a
-/// file; `check NET CERT` writes the slack of a certificate that holds; `refute NET VECTOR` writes the
+/// file; `certify NET` writes the certificate of the greatest slack; `check NET CERT` writes the slack of a certificate that holds; `refute NET VECTOR` writes the
 /// load and the capacity of a vector that speaks against the network. Every status but 0 has its line
 /// on `err`, whose faults are ignored: 1 for words that are not listed, 2 for a fault of the store, 3
 /// for the first rule that the network file breaks and for the first line of the other file that is not
-/// in its grammar, 4 for the first rule that a certificate breaks and for a vector that shows nothing, 5
-/// for a calculation that passes 128 bits, 7 for the first line of the stream that is too long or not in
+/// in its grammar, 4 for a network that is critical or overloaded, with the vector that shows it, for the
+/// first rule that a certificate breaks and for a vector that shows nothing, 5 for a calculation that
+/// passes 128 bits, 6 for the limit of turns at a junction, 7 for the first line of the stream that is too long or not in
 /// the grammar, 8 for the first period of the stream in which some link does not keep to its bucket, 9
 /// for more than 2^48 lines, 10 for a fault of the input, 11 for one of the output, and 12 for want of
 /// memory, which comes before the first byte is put.
@@ -154,9 +156,9 @@ pub fn top<St: Store, In: Source, Out: Sink, Er: Sink>(
     let name = name_of(words);
     let other = other_of(words);
     let outcome = obey(alloc, command_of(words), name, other, store, input, out);
-    if let Outcome::Done = outcome {
+    if let Outcome::Done = &outcome {
         return 0;
     }
-    let _ = put_message(err, outcome, named_in(outcome, name, other));
-    status_of(outcome)
+    let _ = put_message(err, &outcome, named_in(&outcome, name, other));
+    status_of(&outcome)
 }
