@@ -4,8 +4,8 @@ ghost use Rattle.mp_edge.specs.Outside.{Tells, Puts, HasCause};
 ghost use Rattle.mp_cli.specs.Messages.{rule_number, spot_text, kind_text, fault_text, place_text, message_of, words_of, vector_behind};
 
 use crate::outcome::{Outcome, TextKind};
-use mp_cert::{CertFault, print_against};
 use itoa::Integer;
+use mp_cert::{CertFault, print_against};
 use mp_edge::{Failed, Sink};
 use mp_flow::Place;
 use mp_log::{push_number, push_text};

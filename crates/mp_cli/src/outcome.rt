@@ -34,11 +34,17 @@ pub enum Outcome {
     /// The store met a fault at this file.
     Store(FileRole),
     /// The network file breaks the rule first, there.
-    Network { rule: NetRule, spot: Spot },
+    Network {
+        rule: NetRule,
+        spot: Spot,
+    },
     /// The other file has more than 1,048,576 bytes.
     LongText(TextKind),
     /// The line of the other file is the first that is not in its grammar.
-    Text { kind: TextKind, line: u64 },
+    Text {
+        kind: TextKind,
+        line: u64,
+    },
     /// The network is critical, as the vector shows.
     Critical(Against),
     /// The network is overloaded, as the vector shows.
@@ -54,9 +60,13 @@ pub enum Outcome {
     /// The turns of the game end at this junction first.
     PivotLimit(JunctionNo),
     /// The line of the stream has more than 2,048 bytes.
-    Long { line: u64 },
+    Long {
+        line: u64,
+    },
     /// The line of the stream is not in the grammar.
-    Grammar { line: u64 },
+    Grammar {
+        line: u64,
+    },
     /// The line of the stream gives the arrivals of this period, the first in which some link does not
     /// keep to its bucket; the link is the least one.
     Above {
