@@ -1,7 +1,9 @@
 //! The files that the words name.
 ghost use Rattle.std.specs.Prelude.{◌≡◌, ◌≤◌, ℕ, List, Option, IfOk, IfErr, Err, length};
 ghost use Rattle.mp_edge.specs.Outside.{Rose, Tells, OfFile};
-ghost use Rattle.mp_cert.specs.Views.{cert_of, vector_of};
+ghost use Rattle.mp_model.specs.Certificate.{HasLengths};
+ghost use Rattle.mp_cert.specs.TextMeaning.{AreNatural, IsNatural};
+ghost use Rattle.mp_cert.specs.Views.{cert_of};
 ghost use Rattle.mp_cli.specs.Ends.{OfNetwork, Acts};
 ghost use Rattle.mp_cli.specs.Opening.{IsRefusal, IsUnread};
 ghost use Rattle.mp_cli.specs.Others.{OfCert, OfVector};
@@ -77,6 +79,7 @@ pub fn open_cert<St: Store>(
 ) -> Result<Cert, Outcome>
     ensures ok { IfOk result (λ cert. OfCert net.now (St.files store.old) name.now (λ c. c ≡ cert_of cert)) }
     ensures lengths { IfOk result (λ cert. HasLengths net.now (cert_of cert)) }
+    ensures natural { IfOk result (λ cert. IsNatural (cert_of cert)) }
     ensures refused { IfErr result (λ outcome. (left was : Option (List ℕ)) → Acts outcome Command.Check net.now (St.files store.old) name.now left left was was) }
     ensures later { St.faults store.old ≤ St.faults store.new }
     ensures store { (file : FileRole) → result ≡ Err (Outcome.Store file) → Rose (St.faults store.old) (St.faults store.new) }
@@ -102,8 +105,9 @@ pub fn open_vector<St: Store>(
     name: &str,
     store: &mut St,
 ) -> Result<Against, Outcome>
-    ensures ok { IfOk result (λ against. OfVector net.now (St.files store.old) name.now (λ p. p ≡ vector_of against)) }
+    ensures ok { IfOk result (λ against. OfVector net.now (St.files store.old) name.now (λ p. p ≡ against.p)) }
     ensures lengths { IfOk result (λ against. length against.p ≡ length net.now.movements) }
+    ensures natural { IfOk result (λ against. AreNatural against.p) }
     ensures refused { IfErr result (λ outcome. (left was : Option (List ℕ)) → Acts outcome Command.Refute net.now (St.files store.old) name.now left left was was) }
     ensures later { St.faults store.old ≤ St.faults store.new }
     ensures store { (file : FileRole) → result ≡ Err (Outcome.Store file) → Rose (St.faults store.old) (St.faults store.new) }
