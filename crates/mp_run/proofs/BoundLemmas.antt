@@ -1,5 +1,5 @@
 -- What a session keeps, over one period and over a whole run.
-use Rattle.std.proofs.Common.{◌≡◌, ◌≤◌, ◌<◌, ◌^◌, ℕ, ℤ, List, map, refl, ap, sym, ◌∙◌, subst, pos, unsigned_abs, Option}
+use Rattle.std.proofs.Common.{◌≡◌, ◌≤◌, ◌<◌, ◌^◌, ℕ, ℤ, List, map, ap, sym, ◌∙◌, subst, pos, unsigned_abs, Option}
 use Rattle.std.specs.List.{All}
 use Rattle.std.proofs.lemmas.Simd.{map-map}
 use Rattle.std.proofs.lemmas.List.{map-id}

@@ -7,17 +7,16 @@ use Rattle.std.proofs.lemmas.List.Sums.{sum_by-cons}
 use Rattle.std.proofs.lemmas.List.Elements.{All-cons}
 use Rattle.mp_model.specs.Network.{Network, Junction, movement_numbers, entry}
 use Rattle.mp_model.specs.NetworkRules.{IsInRange}
-use Rattle.mp_model.specs.Arrivals.{arrivals_of, HasCounts}
+use Rattle.mp_model.specs.Arrivals.{HasCounts}
 use Rattle.mp_model.specs.Stream.LineKind.{arrivals_line}
-use Rattle.mp_model.specs.Step.{State, AreStages, queue, queued, step}
+use Rattle.mp_model.specs.Step.{State, AreStages, queue, queued}
 use Rattle.mp_model.specs.Run.{greatest_stages, advance}
 use Rattle.mp_model.specs.Log.{text_of, period_line, line_after, end_line, end_line_of}
 use Rattle.mp_edge.specs.Outside.{Tells, Puts, GainsPrefix}
 use Rattle.mp_edge.proofs.Told.{Tells-weaker}
-use Rattle.mp_laws.specs.Buckets.{IsFirstAbove}
 use Rattle.mp_step.specs.Taken.{HasTaken}
 use Rattle.mp_run.specs.Running.{TakesLine, Finishes}
-use Rattle.mp_run.specs.declared.run.RunEnd.TheVariants.{Done, Write, Above}
+use Rattle.mp_run.specs.declared.run.RunEnd.TheVariants.{Done, Write}
 use Rattle.mp_log.specs.Fitting.{FitsLine}
 use Rattle.mp_log.proofs.FedLemmas.{fed_few}
 use Rattle.mp_press.specs.Queues.{naturals, NoneNegative}

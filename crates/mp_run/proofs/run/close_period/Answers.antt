@@ -1,4 +1,4 @@
-use Rattle.std.proofs.Common.{◌≡◌, ◌∙◌, ℕ, ℤ, List, map, pos, ap}
+use Rattle.std.proofs.Common.{◌≡◌, ◌∙◌, map, pos, ap}
 use Rattle.mp_step.specs.Standing.{Standing}
 use Rattle.mp_run.proofs.BoundLemmas.{closed_line_fits}
 use Rattle.mp_run.proofs.PeriodLemmas.{signed_is, closes_period, cuts_period}
