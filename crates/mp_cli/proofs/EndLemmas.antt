@@ -114,12 +114,3 @@ pub eleven_write : (outcome : Outcome) → status_of outcome ≡ 11 → outcome 
 eleven_write Write is = refl
 eleven_write outcome is = absurd (omega arith)
 
--- the outcome of a run is that of its end
-pub run_ends : (end : RunEnd) (net : Network) (files : Files) (other : List ℕ) (left rest was now : Option (List ℕ)) → EndsAs net head end left rest was now → Acts (outcome_of end) Run net files other left rest was now
-run_ends end.Done net files other left rest was now ends = ends
-run_ends end.Write net files other left rest was now ends = ends
-run_ends end.Read net files other left rest was now ends = (refl, ends)
-run_ends end.LineLimit net files other left rest was now ends = (refl, ends)
-run_ends (end.Long n) net files other left rest was now ends = (refl, ends)
-run_ends (end.Grammar n) net files other left rest was now ends = (refl, ends)
-run_ends (end.Above n p l) net files other left rest was now ends = (refl, ends)

@@ -1,3 +1,4 @@
 pub mod CompleteLemmas
 pub mod EndLemmas
 pub mod VectorLemmas
+pub mod RunLemmas

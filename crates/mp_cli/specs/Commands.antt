@@ -2,11 +2,15 @@
 use Rattle.std.specs.Prelude.{ℕ, Bool, if◌then◌else◌, List, [], ◌∷◌, codes, nat_eq}
 use Rattle.std.specs.Cmp.Lexicographic.{pointwise}
 use Rattle.mp_cli.specs.declared.command.Command.{Command}
-use Rattle.mp_cli.specs.declared.command.Command.TheVariants.{Run, Show, Certify, Check, Refute, Unknown}
+use Rattle.mp_cli.specs.declared.command.Command.TheVariants.{Run, RunWith, Show, Certify, Check, Refute, Unknown}
 
 -- The word is `run`.
 abbrev pub is_run : List ℕ → Bool
 is_run word = pointwise nat_eq word (codes "run")
+
+-- The word is `runwith`.
+abbrev pub is_runwith : List ℕ → Bool
+is_runwith word = pointwise nat_eq word (codes "runwith")
 
 -- The word is `show`.
 abbrev pub is_show : List ℕ → Bool
@@ -30,7 +34,7 @@ command_on_net word = if is_run word then Run else if is_show word then Show els
 
 -- A word before the name of a network and that of another file asks for a command.
 abbrev pub command_on_both : List ℕ → Command
-command_on_both word = if is_check word then Check else if is_refute word then Refute else Unknown
+command_on_both word = if is_runwith word then RunWith else if is_check word then Check else if is_refute word then Refute else Unknown
 
 -- The listed words are a word and the name of a network, or a word and the names of a network and of another file.
 abbrev pub command_of : List (List ℕ) → Command

@@ -3,6 +3,7 @@ pub mod Statuses
 pub mod Messages
 pub mod Ends
 pub mod Others
+pub mod Runs
 pub mod Opening
 pub mod Outcomes
 pub mod Complete

@@ -17,17 +17,35 @@ use Rattle.mp_verdict.specs.Laws.{IsAdmitted}
 use Rattle.mp_verdict.specs.Stated.{Reached}
 use Rattle.mp_verdict.specs.Verdict.{verdict, Admitted, Critical, Overloaded}
 use Rattle.mp_cli.specs.declared.command.Command.{Command}
-use Rattle.mp_cli.specs.declared.command.Command.TheVariants.{Run, Show, Certify, Check, Refute, Unknown}
+use Rattle.mp_cli.specs.declared.command.Command.TheVariants.{Run, RunWith, Show, Certify, Check, Refute, Unknown}
 
 -- The files are told as names and bytes, or not at all.
 abbrev pub Files : Type 0
 Files = Option (List (List ℕ × List ℕ))
 
+-- Nothing was taken from the input, and nothing was put to the output.
+pub record IsUntouched (left rest was now : Option (List ℕ)) : Type 0 where
+  pub input : rest ≡ left
+  pub output : now ≡ was
+
 -- Another file stands behind the network's name.
 abbrev pub HasOther : Command → Type 0
+HasOther RunWith = Unit {0}
 HasOther Check = Unit {0}
 HasOther Refute = Unit {0}
 HasOther command = ⊥
+
+-- The other file is a certificate.
+abbrev pub TakesCert : Command → Type 0
+TakesCert RunWith = Unit {0}
+TakesCert Check = Unit {0}
+TakesCert command = ⊥
+
+-- The command asks for the verdict on the network.
+abbrev pub AsksVerdict : Command → Type 0
+AsksVerdict Run = Unit {0}
+AsksVerdict Certify = Unit {0}
+AsksVerdict command = ⊥
 
 -- A fact of the certificate holds where the files are not told, or the file of that name is the text of one for the network and the fact is true of it.
 abbrev pub OfCert : Network → Files → List ℕ → (Cert → Type 0) → Type 0

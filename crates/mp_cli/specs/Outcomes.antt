@@ -3,11 +3,15 @@ use Rattle.std.specs.Prelude.{List, ℕ, codes, int_lt, if◌then◌else◌}
 use Rattle.mp_cert.specs.declared.types.CertFault.{CertFault}
 use Rattle.mp_cert.specs.declared.types.CertFault.TheVariants as fault
 use Rattle.mp_cert.specs.declared.types.Weighed.{Weighed}
+use Rattle.mp_flow.specs.declared.network.CalcFault.{CalcFault}
+use Rattle.mp_flow.specs.declared.network.CalcFault.TheVariants as calc
 use Rattle.mp_flow.specs.declared.network.Place.TheVariants as at
+use Rattle.mp_drift.specs.declared.session.OpenFault.{OpenFault}
+use Rattle.mp_drift.specs.declared.session.OpenFault.TheVariants as opening
 use Rattle.mp_run.specs.declared.run.RunEnd.{RunEnd}
 use Rattle.mp_run.specs.declared.run.RunEnd.TheVariants as end
 use Rattle.mp_cli.specs.declared.outcome.Outcome.{Outcome}
-use Rattle.mp_cli.specs.declared.outcome.Outcome.TheVariants.{Done, Certificate, Overflow, Long, Grammar, Above, LineLimit, Read, Write}
+use Rattle.mp_cli.specs.declared.outcome.Outcome.TheVariants.{Done, Certificate, Overflow, PivotLimit, Long, Grammar, Above, LineLimit, Read, Write, NoMemory}
 
 -- This is the outcome of a run's end.
 abbrev pub outcome_of : RunEnd → Outcome
@@ -23,6 +27,18 @@ outcome_of (end.Above n p l) = Above n p l
 abbrev pub outcome_of_fault : CertFault → Outcome
 outcome_of_fault fault.Overflow = Overflow at.Certificate
 outcome_of_fault broken = Certificate broken
+
+-- This is the outcome of a calculation that has no result.
+abbrev pub outcome_of_calculation : CalcFault → Outcome
+outcome_of_calculation (calc.Overflow place) = Overflow place
+outcome_of_calculation (calc.PivotLimit j) = PivotLimit j
+outcome_of_calculation calc.NoMemory = NoMemory
+
+-- This is the outcome of a session that was not opened.
+abbrev pub outcome_of_opening : OpenFault → Outcome
+outcome_of_opening (opening.Cert broken) = outcome_of_fault broken
+outcome_of_opening (opening.Calc broken) = outcome_of_calculation broken
+outcome_of_opening opening.NoMemory = NoMemory
 
 -- This is the word for a vector whose load is at least what is served.
 abbrev pub word_of : Weighed → List ℕ

@@ -8,10 +8,11 @@ ghost use Rattle.mp_cli.specs.Others.{Files, accepted_line, sums_line, IsZero};
 use crate::command::Command;
 use crate::opening::{open_cert, open_vector};
 use crate::outcome::{FileRole, Outcome};
+use crate::running::outcome_of_calculation;
 use mp_admit::{Verdict, admit};
 use mp_cert::{CertFault, Weighed, print_cert, slack, weigh};
 use mp_edge::{Failed, Sink, Store};
-use mp_flow::{CalcFault, Place};
+use mp_flow::Place;
 use mp_log::{push_number, push_text};
 use mp_net::Net;
 use mp_num::Frac;
@@ -60,8 +61,8 @@ fn put_verdict<Out: Sink>(out: &mut Out, sums: Weighed) -> Result<(), Failed>
     }
 }
 
-// The outcome of a certificate that is not accepted.
-fn outcome_of_fault(fault: CertFault) -> Outcome
+/// The outcome of a certificate that is not accepted.
+pub fn outcome_of_fault(fault: CertFault) -> Outcome
     ensures { result ≡ outcome_of_fault fault }
 {
     match fault {
@@ -91,9 +92,7 @@ pub fn certify<Out: Sink>(alloc: Global, net: &Net, out: &mut Out) -> Outcome
         },
         Ok(Verdict::Critical { against }) => Outcome::Critical(against),
         Ok(Verdict::Overloaded { against }) => Outcome::Overloaded(against),
-        Err(CalcFault::Overflow(place)) => Outcome::Overflow(place),
-        Err(CalcFault::PivotLimit(j)) => Outcome::PivotLimit(j),
-        Err(CalcFault::NoMemory) => Outcome::NoMemory,
+        Err(fault) => outcome_of_calculation(fault),
     }
 }
 

@@ -1,12 +1,14 @@
 //! The words of the command line.
 ghost use Rattle.std.specs.Prelude.{◌≡◌, map, string_bytes};
-ghost use Rattle.mp_cli.specs.Commands.{command_of, command_on_net, command_on_both, is_run, is_show, is_certify, is_check, is_refute, name_of, other_of};
+ghost use Rattle.mp_cli.specs.Commands.{command_of, command_on_net, command_on_both, is_run, is_runwith, is_show, is_certify, is_check, is_refute, name_of, other_of};
 
 /// What the words ask for.
 #[derive(Clone, Copy, Debug, PartialEq, Eq)]
 pub enum Command {
-    /// `run NET`: the log of the stream's run.
+    /// `run NET`: the log of the stream's run, with the greatest slack.
     Run,
+    /// `runwith NET CERT`: the same, with the slack of the certificate.
+    RunWith,
     /// `show NET`: the network, as a file.
     Show,
     /// `certify NET`: the certificate of the greatest slack, or the vector that shows why there is none.
@@ -23,6 +25,12 @@ fn is_run(word: &str) -> bool
     ensures { result ≡ is_run word.now }
 {
     word == "run"
+}
+
+fn is_runwith(word: &str) -> bool
+    ensures { result ≡ is_runwith word.now }
+{
+    word == "runwith"
 }
 
 fn is_show(word: &str) -> bool
@@ -68,7 +76,9 @@ fn command_on_net(word: &str) -> Command
 fn command_on_both(word: &str) -> Command
     ensures { result ≡ command_on_both word.now }
 {
-    if is_check(word) {
+    if is_runwith(word) {
+        Command::RunWith
+    } else if is_check(word) {
         Command::Check
     } else if is_refute(word) {
         Command::Refute

@@ -7,6 +7,7 @@ mod message;
 mod opening;
 mod outcome;
 mod program;
+mod running;
 #[cfg(test)]
 mod tests;
 

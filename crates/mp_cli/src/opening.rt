@@ -6,7 +6,7 @@ ghost use Rattle.mp_cert.specs.TextMeaning.{AreNatural, IsNatural};
 ghost use Rattle.mp_cert.specs.Views.{cert_of};
 ghost use Rattle.mp_cli.specs.Ends.{OfNetwork, Acts};
 ghost use Rattle.mp_cli.specs.Opening.{IsRefusal, IsUnread};
-ghost use Rattle.mp_cli.specs.Others.{OfCert, OfVector};
+ghost use Rattle.mp_cli.specs.Others.{OfCert, OfVector, TakesCert};
 
 use crate::command::Command;
 use crate::outcome::{FileRole, Outcome, TextKind};
@@ -80,7 +80,7 @@ pub fn open_cert<St: Store>(
     ensures ok { IfOk result (λ cert. OfCert net.now (St.files store.old) name.now (λ c. c ≡ cert_of cert)) }
     ensures lengths { IfOk result (λ cert. HasLengths net.now (cert_of cert)) }
     ensures natural { IfOk result (λ cert. IsNatural (cert_of cert)) }
-    ensures refused { IfErr result (λ outcome. (left was : Option (List ℕ)) → Acts outcome Command.Check net.now (St.files store.old) name.now left left was was) }
+    ensures refused { IfErr result (λ outcome. (command : Command) → TakesCert command → (left was : Option (List ℕ)) → Acts outcome command net.now (St.files store.old) name.now left left was was) }
     ensures later { St.faults store.old ≤ St.faults store.new }
     ensures store { (file : FileRole) → result ≡ Err (Outcome.Store file) → Rose (St.faults store.old) (St.faults store.new) }
 {

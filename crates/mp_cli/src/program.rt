@@ -3,7 +3,6 @@ ghost use Rattle.std.specs.Prelude.{◌≡◌, ◌≤◌, ◌⊎◌, ◌↔◌, 
 ghost use Rattle.mp_edge.specs.Outside.{Rose};
 ghost use Rattle.mp_cli.specs.Commands.{command_of, name_of, other_of};
 ghost use Rattle.mp_cli.specs.Ends.{Acts, Means, Does, named_as, IsEnd};
-ghost use Rattle.mp_cli.specs.Outcomes.{outcome_of};
 ghost use Rattle.mp_cli.specs.Complete.{IsGood, IsExcessive};
 ghost use Rattle.mp_cli.specs.Others.{Files};
 
@@ -11,45 +10,12 @@ use crate::checking::{certify, check, refute};
 use crate::command::{Command, command_of, name_of, other_of};
 use crate::message::put_message;
 use crate::opening::open_net;
+use crate::running::{run, run_with};
 use crate::outcome::{FileRole, Outcome, status_of};
 use mp_edge::{Failed, Sink, Source, Store};
 use mp_net::Net;
 use mp_netfile::print_net;
-use mp_run::{RunEnd, run_stream};
-use mp_step::State;
 use std::alloc::Global;
-
-// The outcome of a run's end.
-fn outcome_of(end: RunEnd) -> Outcome
-    ensures { result ≡ outcome_of end }
-{
-    match end {
-        RunEnd::Done => Outcome::Done,
-        RunEnd::Read => Outcome::Read,
-        RunEnd::Write => Outcome::Write,
-        RunEnd::LineLimit => Outcome::LineLimit,
-        RunEnd::Long { line } => Outcome::Long { line },
-        RunEnd::Grammar { line } => Outcome::Grammar { line },
-        RunEnd::Above { line, period, link } => Outcome::Above { line, period, link },
-    }
-}
-
-// Writes the log of the stream's run. All memory is taken before the first byte is put.
-fn run<In: Source, Out: Sink>(alloc: Global, net: &Net, input: &mut In, out: &mut Out) -> Outcome
-    ensures acts { (files : Files) (other : List ℕ) → Acts result Command.Run net.now files other (In.left input.old) (In.left input.new) (Out.held out.old) (Out.held out.new) }
-    ensures in_later { In.faults input.old ≤ In.faults input.new }
-    ensures out_later { Out.faults out.old ≤ Out.faults out.new }
-    ensures read { result ≡ Outcome.Read → Rose (In.faults input.old) (In.faults input.new) }
-    ensures write { result ≡ Outcome.Write → Rose (Out.faults out.old) (Out.faults out.new) }
-{
-    let Ok(mut state) = State::empty(alloc, net) else {
-        return Outcome::NoMemory;
-    };
-    if let Err(Failed) = out.put(b"maxpressure 1\n") {
-        return Outcome::Write;
-    }
-    outcome_of(run_stream(net, &mut state, input, out))
-}
 
 // Writes the network, as a file.
 fn show<Out: Sink>(alloc: Global, net: &Net, out: &mut Out) -> Outcome
@@ -91,6 +57,7 @@ fn obey<St: Store, In: Source, Out: Sink>(
     };
     match command {
         Command::Run => run(alloc, &net, input, out),
+        Command::RunWith => run_with(alloc, &net, other, store, input, out),
         Command::Certify => certify(alloc, &net, out),
         Command::Check => check(alloc, &net, other, store, out),
         Command::Refute => refute(alloc, &net, other, store, out),
@@ -111,7 +78,9 @@ fn named_in<'a>(outcome: &Outcome, name: &'a str, other: &'a str) -> &'a str
 
 /// The whole program: does what the words ask for, and answers the status to end with.
 ///
-/// `run NET` writes the log of the run of the stream on `input`; `show NET` writes the network as a
+/// `run NET` certifies the network and writes the log of the run of the stream on `input`, whose header
+/// has the greatest slack and a bound for every queue; `runwith NET CERT` takes the slack of a
+/// certificate; `show NET` writes the network as a
 /// file; `certify NET` writes the certificate of the greatest slack; `check NET CERT` writes the slack of a certificate that holds; `refute NET VECTOR` writes the
 /// load and the capacity of a vector that speaks against the network. Every status but 0 has its line
 /// on `err`, whose faults are ignored: 1 for words that are not listed, 2 for a fault of the store, 3
