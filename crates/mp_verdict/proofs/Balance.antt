@@ -1,5 +1,5 @@
 -- The rates at a slack that is not negative balance, with the slack between them.
-use Rattle.std.proofs.Common.{◌≡◌, ℕ, zero, suc, ◌+◌, ◌*◌, ◌≤◌, true, length, sum_by, pos, ◌+ℤ◌, ◌*ℤ◌, ◌≤ℤ◌, arith, sym, ◌∙◌, ap, mul-zero, mul-le-mul}
+use Rattle.std.proofs.Common.{◌≡◌, ℕ, zero, suc, ◌+◌, ◌*◌, ◌≤◌, true, length, sum_by, pos, ◌+ℤ◌, ◌*ℤ◌, arith, sym, ◌∙◌, ap, mul-zero, mul-le-mul}
 use Rattle.std.proofs.lemmas.Int.{ints}
 use Rattle.mp_model.specs.Network.{Network, movement_numbers, link_numbers, link_at, from_of, to_of, share_of, rate_before, into_link, has, goes_to}
 use Rattle.mp_model.specs.NetworkRules.{IsNetwork}

@@ -1,5 +1,5 @@
 -- The certificate at the game's end.
-use Rattle.std.proofs.Common.{◌≡◌, ℕ, zero, suc, ◌+◌, ◌-◌, ◌*◌, ◌≤◌, ◌<◌, Bool, true, false, cond, List, [], ◌∷◌, length, get_or, map, sum_by, ℤ, pos, ◌+ℤ◌, ◌*ℤ◌, ◌≤ℤ◌, unsigned_abs, Some, arith, refl, sym, ◌∙◌, ap, ap₂, subst, mul-le-mul, mul-zero}
+use Rattle.std.proofs.Common.{◌≡◌, ℕ, zero, suc, ◌+◌, ◌-◌, ◌*◌, ◌≤◌, ◌<◌, Bool, true, false, cond, List, [], ◌∷◌, length, get_or, map, sum_by, ℤ, pos, ◌+ℤ◌, ◌*ℤ◌, ◌≤ℤ◌, unsigned_abs, Some, arith, refl, sym, ◌∙◌, ap, ap₂, subst, mul-le-mul}
 use Rattle.std.specs.List.{AllByRecursion}
 use Rattle.std.specs.Int.{IsGcd}
 use Rattle.std.proofs.lemmas.Int.{ints}
@@ -7,29 +7,28 @@ use Rattle.std.proofs.lemmas.List.{length-map}
 use Rattle.std.proofs.lemmas.List.FromFn.{length-range_with_len, get_or-range_with_len}
 use Rattle.std.proofs.lemmas.List.Sums.{sum_by-cons}
 use Rattle.mp_model.specs.Sums.{int_sum_by}
-use Rattle.mp_model.specs.Network.{Network, Junction, movement_numbers, junction_numbers, stage_numbers, junction_at, junction_of_movement, from_of, to_of, share_of, flow_of, rate_before, into_link, own, stands_in, has, goes_to, numbers_to}
+use Rattle.mp_model.specs.Network.{Network, movement_numbers, junction_numbers, stage_numbers, junction_at, junction_of_movement, from_of, to_of, share_of, flow_of, rate_before, into_link, own, has, goes_to, numbers_to}
 use Rattle.mp_model.specs.NetworkRules.{IsNetwork}
-use Rattle.mp_model.specs.Certificate.{Cert, Mix, no_mix, rate_of, mix_at, parts_with, rate_into, int_entry, HasLengths, MeetsRules, Certifies, RateRule, WholeRule, PartRule, MassRule, ServeRule, BalanceRule}
+use Rattle.mp_model.specs.Certificate.{Mix, no_mix, mix_at, parts_with, rate_into, int_entry, MeetsRules, Certifies, RateRule, WholeRule, PartRule, MassRule, ServeRule, BalanceRule}
 use Rattle.mp_model.specs.Slack.{IsSlack}
 use Rattle.mp_laws.proofs.PlainCertificate.{plain_parts_with}
 use Rattle.mp_laws.proofs.Lists.{at_in, each_in, at_index, at_number, all_in, in_numbers, filter_sub}
 use Rattle.mp_num.specs.Divisor.{gcd_of}
-use Rattle.mp_num.specs.Fraction.{Fraction}
 use Rattle.mp_num.proofs.DivisorLemmas.{IsGcd-gcd_of}
 use Rattle.mp_flow.specs.declared.network.Place.{Place}
 use Rattle.mp_flow.specs.Systems.{Flows, AreFlows}
 use Rattle.mp_simplex.specs.declared.Optimum.{Optimum}
 use Rattle.mp_simplex.specs.Outcome.{Optimal, maximised}
-use Rattle.mp_verdict.specs.Stated.{Stated, Reached, then}
+use Rattle.mp_verdict.specs.Stated.{Reached}
 use Rattle.mp_verdict.specs.Rates.{Rates, rates_at}
 use Rattle.mp_verdict.specs.Program.{program, optimum_at}
 use Rattle.mp_verdict.specs.Game.{Standing, turn_limit}
 use Rattle.mp_verdict.specs.Mixes.{mix_of, mixed, mixes, certificate_of}
-use Rattle.mp_verdict.proofs.Plain.{AreRates, CarriesAt, asked, unit_asked, values_of}
+use Rattle.mp_verdict.proofs.Plain.{AreRates, asked, unit_asked, values_of}
 use Rattle.mp_verdict.proofs.Signed.{ints-pos, mul_posℤ}
 use Rattle.mp_verdict.proofs.Falls.{ints-same_in, good_at}
 use Rattle.mp_verdict.proofs.Carrying.{carried_mass}
-use Rattle.mp_verdict.proofs.FlowNumbers.{abs_is, positive_is, above_one, flow_is}
+use Rattle.mp_verdict.proofs.FlowNumbers.{abs_is, positive_is, flow_is}
 use Rattle.mp_verdict.proofs.RatesAt.{d_of, f_of, g_of, IsRates, rates_are, factor_sign}
 use Rattle.mp_verdict.proofs.Solved.{IsSolved, plan_of}
 use Rattle.mp_verdict.proofs.Programs.{solved_by}

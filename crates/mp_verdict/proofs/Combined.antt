@@ -1,5 +1,5 @@
 -- Sums over the movements of a junction and over the stages that hold them.
-use Rattle.std.proofs.Common.{◌≡◌, ◌==◌, ℕ, ◌+◌, ◌*◌, ◌≤◌, max, Bool, true, false, cond, ◌||◌, List, [], ◌∷◌, map, sum_by, arith, refl, sym, ◌∙◌, ap, subst, mul-le-mul_left, mul-zero, zero-le, eqb-true}
+use Rattle.std.proofs.Common.{◌≡◌, ◌==◌, ℕ, ◌+◌, ◌*◌, ◌≤◌, max, Bool, true, false, cond, ◌||◌, List, [], ◌∷◌, map, sum_by, arith, refl, sym, ◌∙◌, subst, mul-le-mul_left, mul-zero, zero-le}
 use Rattle.std.specs.List.{AllByRecursion, IsDistinct}
 use Rattle.std.proofs.lemmas.Bool.{false≢true}
 use Rattle.std.proofs.lemmas.List.Sums.{sum_by-cons}

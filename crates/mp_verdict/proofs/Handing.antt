@@ -1,5 +1,5 @@
 -- What the code that plays the game takes from the laws.
-use Rattle.std.proofs.Common.{◌≡◌, ◌==◌, ℕ, suc, ◌+◌, ◌-◌, ◌*◌, ◌≤◌, ◌<◌, true, List, [], ◌∷◌, length, map, sum_by, ℤ, pos, ◌+ℤ◌, ◌*ℤ◌, ◌≤ℤ◌, ◌<ℤ◌, int_lt, unsigned_abs, Some, arith, refl, sym, ◌∙◌, ap, subst, All}
+use Rattle.std.proofs.Common.{◌≡◌, ℕ, ◌-◌, ◌≤◌, true, List, [], ◌∷◌, length, map, sum_by, ℤ, pos, ◌*ℤ◌, ◌≤ℤ◌, ◌<ℤ◌, unsigned_abs, Some, arith, refl, sym, ◌∙◌, ap, subst, All}
 use Rattle.std.specs.List.{AllByRecursion}
 use Rattle.std.proofs.lemmas.Int.{ints}
 use Rattle.mp_model.specs.Sums.{int_sum_by}
@@ -22,7 +22,7 @@ use Rattle.mp_verdict.proofs.Falls.{some_values, good_at, ints-same_in, own_sum}
 use Rattle.mp_verdict.proofs.FlowNumbers.{abs_is, positive_is}
 use Rattle.mp_verdict.proofs.RatesAt.{rates_are}
 use Rattle.mp_verdict.proofs.Places.{values_outside, own_distinct}
-use Rattle.mp_verdict.proofs.Solved.{IsSolved, plan_of}
+use Rattle.mp_verdict.proofs.Solved.{plan_of}
 use Rattle.mp_verdict.proofs.ListProgram.{dot}
 use Rattle.mp_verdict.proofs.LpLemmas.{dot_values}
 use Rattle.mp_verdict.proofs.Programs.{solved_by, primal_length}

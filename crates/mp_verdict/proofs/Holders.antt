@@ -1,5 +1,5 @@
 -- The junction of a movement is one in whose stages it stands.
-use Rattle.std.proofs.Common.{◌≡◌, ℕ, zero, suc, ◌+◌, ◌-◌, ◌≤◌, ◌<◌, Bool, true, false, cond, List, [], ◌∷◌, length, get_or, sum_by, arith, refl, sym, ◌∙◌, ap, subst}
+use Rattle.std.proofs.Common.{◌≡◌, ℕ, suc, ◌+◌, ◌-◌, ◌≤◌, ◌<◌, Bool, true, false, cond, List, [], ◌∷◌, length, get_or, sum_by, arith, refl, ap, subst}
 use Rattle.std.proofs.lemmas.List.Sums.{sum_by-cons}
 use Rattle.mp_model.specs.Network.{Network, Junction, movement_numbers, junction_at, junction_of_movement, first_holder, own, stands_in, has, no_junction}
 use Rattle.mp_model.specs.NetworkRules.{IsNetwork}

@@ -34,3 +34,5 @@ pub mod StandingLaw
 pub mod RatesThere
 pub mod VerdictProof
 pub mod Handing
+pub mod Computed
+pub mod TurnProof

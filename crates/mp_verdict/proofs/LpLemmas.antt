@@ -15,7 +15,6 @@ use Rattle.mp_verdict.proofs.Combined.{spread_le}
 use Rattle.mp_laws.proofs.Lists.{each_in, at_in, has_filter, AllOf-map, all_places}
 use Rattle.mp_simplex.specs.declared.Optimum.{Optimum}
 use Rattle.mp_verdict.proofs.Plain.{objective, values_of}
-use Rattle.mp_num.specs.Fraction.{Fraction}
 use Rattle.mp_verdict.proofs.Solved.{IsSolved}
 use Rattle.mp_verdict.proofs.ListProgram.{dot, column, AllKept, AreBest, junction_lp}
 use Rattle.mp_verdict.specs.Program.{stage_row}

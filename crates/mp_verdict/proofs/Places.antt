@@ -1,17 +1,18 @@
 -- Values beside numbers, as a function of the number.
-use Rattle.std.proofs.Common.{◌≡◌, ◌==◌, ℕ, ◌+◌, ◌*◌, Bool, true, false, cond, List, [], ◌∷◌, length, filter, sum_by, ℤ, pos, negsuc, ◌+ℤ◌, ◌*ℤ◌, ◌≤ℤ◌, unsigned_abs, Option, Some, arith, refl, sym, ◌∙◌, ap, subst, mul-zero, eqb-true, eq-eqb, ⊎_elim}
+use Rattle.std.proofs.Common.{◌≡◌, ◌==◌, ℕ, ◌+◌, ◌*◌, Bool, true, false, cond, List, [], ◌∷◌, length, filter, sum_by, ℤ, pos, ◌+ℤ◌, ◌*ℤ◌, ◌≤ℤ◌, unsigned_abs, Option, Some, arith, refl, sym, ◌∙◌, ap, mul-zero, eq-eqb}
 use Rattle.std.specs.List.{AllByRecursion, IsDistinct}
 use Rattle.std.proofs.lemmas.Int.{ints}
-use Rattle.std.proofs.lemmas.Bool.{or_left, or_right, or_cases, false≢true}
+use Rattle.std.proofs.lemmas.Bool.{or_left, or_right, false≢true}
 use Rattle.std.proofs.lemmas.Option.{option_and_then_some}
 use Rattle.std.proofs.lemmas.List.Sums.{sum_by-cons}
 use Rattle.mp_model.specs.Network.{Network, Junction, movement_numbers, own, stands_in, has}
 use Rattle.mp_laws.proofs.Sums.{sum_by-same_at, sum_by-zero, sum_by-same, there}
 use Rattle.mp_laws.proofs.Distinct.{IsAbsent, one_at, range_distinct, distinct_filter}
-use Rattle.mp_laws.proofs.Lists.{AllOf-map}
+use Rattle.mp_laws.proofs.Lists.{AllOf-map, filter_has}
 use Rattle.mp_verdict.specs.Passing.{plus, summed}
 use Rattle.mp_verdict.proofs.Plain.{values_of}
 use Rattle.mp_verdict.proofs.Falls.{own_sum}
+use Rattle.mp_verdict.proofs.FlowNumbers.{abs_is}
 use Rattle.mp_verdict.proofs.Values.{Gives, gives-some, gives-plus, gives-same}
 
 -- a value of a number that is not there
@@ -24,13 +25,8 @@ values_none (k ∷ ks) (z ∷ zs) m h = go (values_none ks zs m) (k == m) refl
     go more true e = absurd (h (or_left (k == m) (has ks m) e))
     go more false e = more (λ i. h (or_right (k == m) (has ks m) i))
 
-kept_test : (p : ℕ → Bool) (m k : ℕ) (xs : List ℕ) (b : Bool) → p k ≡ b → (has (filter p xs) m ≡ true → p m ≡ true) → has (cond b (k ∷ filter p xs) (filter p xs)) m ≡ true → p m ≡ true
-kept_test p m k xs true e more h = ⊎_elim (λ t. subst (λ n. p n ≡ true) (eqb-true k m t) e) more (or_cases (k == m) (has (filter p xs) m) h)
-kept_test p m k xs false e more h = more h
-
 pub filter_test : (p : ℕ → Bool) (m : ℕ) (xs : List ℕ) → has (filter p xs) m ≡ true → p m ≡ true
-filter_test p m [] h = absurd (false≢true h)
-filter_test p m (k ∷ xs) h = kept_test p m k xs (p k) refl (filter_test p m xs) h
+filter_test p m xs h = filter_has p xs m h
 
 -- outside a junction nothing stands beside its movements
 pub values_outside : (net : Network) (j : Junction) (zs : List ℤ) (m : ℕ) → stands_in j m ≡ false → values_of (own net j) zs m ≡ 0
@@ -38,10 +34,6 @@ values_outside net j zs m h = values_none (own net j) zs m (λ i. false≢true (
 
 pub own_distinct : (net : Network) (j : Junction) → IsDistinct ◌==◌ (own net j)
 own_distinct net j = distinct_filter (stands_in j) (movement_numbers net) (range_distinct 1 (length net.movements))
-
-pub abs_is : (z : ℤ) → pos 0 ≤ℤ z → z ≡ pos (unsigned_abs z)
-abs_is (pos n) h = refl
-abs_is (negsuc n) h = absurd (omega (arith, ints))
 
 value_here : (k : ℕ) (ks : List ℕ) (z : ℤ) (zs : List ℤ) → values_of (k ∷ ks) (z ∷ zs) k ≡ unsigned_abs z
 value_here k ks z zs = ap (λ b. cond b (unsigned_abs z) (values_of ks zs k)) (eq-eqb k k refl)

@@ -1,5 +1,5 @@
 -- Rates, programs and mixes over natural numbers, which the proofs speak of.
-use Rattle.std.proofs.Common.{◌≡◌, ◌==◌, ◌≤◌, ℕ, ◌+◌, ◌*◌, true, cond, List, [], ◌∷◌, length, map, sum_by, ℤ, pos, ◌+ℤ◌, ◌*ℤ◌, ◌≤ℤ◌, unsigned_abs}
+use Rattle.std.proofs.Common.{◌≡◌, ◌==◌, ◌≤◌, ℕ, ◌+◌, ◌*◌, true, cond, List, [], ◌∷◌, length, sum_by, ℤ, pos, ◌+ℤ◌, ◌*ℤ◌, ◌≤ℤ◌, unsigned_abs}
 use Rattle.std.specs.List.{AllByRecursion}
 use Rattle.mp_model.specs.Sums.{int_sum_by}
 use Rattle.mp_model.specs.Network.{Network, Junction, movement_numbers, from_of, share_of, flow_of, own, has}

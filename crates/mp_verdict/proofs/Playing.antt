@@ -1,5 +1,5 @@
 -- The movements of a junction alone keep the standing sound.
-use Rattle.std.proofs.Common.{◌≡◌, ◌==◌, ℕ, ◌+◌, ◌-◌, ◌*◌, ◌≤◌, ◌<◌, Bool, true, false, cond, List, [], ◌∷◌, length, map, sum_by, ℤ, pos, negsuc, ◌+ℤ◌, ◌-ℤ◌, ◌*ℤ◌, ◌≤ℤ◌, ◌<ℤ◌, unsigned_abs, Option, Some, None, arith, refl, sym, ◌∙◌, ap, ap₂, subst, mul-le-mul}
+use Rattle.std.proofs.Common.{◌≡◌, ◌==◌, ℕ, ◌+◌, ◌-◌, ◌*◌, ◌≤◌, ◌<◌, Bool, true, false, cond, List, [], ◌∷◌, length, map, sum_by, ℤ, pos, ◌-ℤ◌, ◌*ℤ◌, ◌≤ℤ◌, ◌<ℤ◌, unsigned_abs, Option, Some, None, arith, refl, sym, ◌∙◌, ap, subst, mul-le-mul}
 use Rattle.std.specs.List.{AllByRecursion}
 use Rattle.std.specs.declared.cmp.Ordering.{Ordering}
 use Rattle.std.specs.Ordering.{int_cmp}
@@ -31,7 +31,7 @@ use Rattle.mp_verdict.proofs.Falls.{good_at}
 use Rattle.mp_verdict.proofs.Reduce.{of_filter}
 use Rattle.mp_verdict.proofs.Carrying.{carries_lower}
 use Rattle.mp_verdict.proofs.Values.{Gives, gives-some, gives-times, gives-less, gives-same}
-use Rattle.mp_verdict.proofs.FlowNumbers.{positive_is, above_one, flow_is}
+use Rattle.mp_verdict.proofs.FlowNumbers.{positive_is, above_one}
 use Rattle.mp_verdict.proofs.RatesAt.{d_of, f_of, g_of, period_gives, rate_gives, unit_gives}
 use Rattle.mp_verdict.proofs.Places.{values_outside, filter_test, sum_one}
 use Rattle.mp_verdict.proofs.Alone.{alone_is, unit_term, top_alone}

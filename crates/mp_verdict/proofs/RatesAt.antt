@@ -1,10 +1,10 @@
 -- What the calculations of the rates give.
-use Rattle.std.proofs.Common.{◌≡◌, ℕ, suc, ◌+◌, ◌-◌, ◌*◌, ◌≤◌, ◌<◌, List, [], ◌∷◌, length, get_or, drop, ℤ, pos, negsuc, ◌+ℤ◌, ◌*ℤ◌, ◌≤ℤ◌, unsigned_abs, Some, arith, refl, sym, ◌∙◌, ap, ap₂, subst, mul-le-mul, length-drop}
+use Rattle.std.proofs.Common.{◌≡◌, ℕ, suc, ◌+◌, ◌-◌, ◌*◌, ◌≤◌, ◌<◌, List, ◌∷◌, length, get_or, ℤ, pos, negsuc, ◌+ℤ◌, ◌*ℤ◌, ◌≤ℤ◌, unsigned_abs, Some, arith, refl, sym, ◌∙◌, ap, ap₂, subst, mul-le-mul, length-drop}
 use Rattle.std.proofs.lemmas.Int.{ints}
 use Rattle.std.proofs.lemmas.Option.{option_and_then_some}
 use Rattle.std.proofs.lemmas.List.{get_or-drop}
 use Rattle.std.proofs.lemmas.List.FromFn.{length-range_with_len, get_or-range_with_len}
-use Rattle.mp_model.specs.Network.{Network, movement_numbers, from_of, share_of, has}
+use Rattle.mp_model.specs.Network.{Network, movement_numbers, from_of, share_of}
 use Rattle.mp_model.specs.Certificate.{int_entry}
 use Rattle.mp_laws.proofs.Lists.{in_numbers}
 use Rattle.mp_num.specs.Divisor.{reduced}
@@ -14,7 +14,7 @@ use Rattle.mp_num.proofs.Ring.{diff_of, differences, diff-eq}
 use Rattle.mp_num.proofs.RowLemmas.{reduced_multiple}
 use Rattle.mp_num.proofs.OutcomeLemmas.{option_map_some, each_some}
 use Rattle.mp_flow.specs.Systems.{Flows, AreFlows}
-use Rattle.mp_verdict.specs.Passing.{times, plus, num}
+use Rattle.mp_verdict.specs.Passing.{times, num}
 use Rattle.mp_verdict.specs.Rates.{Rates, period_unit, rate_need, unit_need, need_at, rates_in, rate_row, rates_at}
 use Rattle.mp_verdict.proofs.Plain.{AreRates, asked, unit_asked}
 use Rattle.mp_verdict.proofs.Signed.{mul_posℤ}
@@ -31,7 +31,7 @@ f_of flows = naturals_in flows.rate
 abbrev pub g_of : Flows → ℕ → ℕ
 g_of flows = naturals_in flows.unit
 
-need_law : (x q H u : ℕ) (e : ℤ) → pos x *ℤ pos q +ℤ ((pos H *ℤ e) *ℤ pos u) ≡ pos (x * q) +ℤ (e *ℤ pos (H * u))
+pub need_law : (x q H u : ℕ) (e : ℤ) → pos x *ℤ pos q +ℤ ((pos H *ℤ e) *ℤ pos u) ≡ pos (x * q) +ℤ (e *ℤ pos (H * u))
 need_law x q H u e = ap₂ (λ a b. a +ℤ b) (mul_posℤ x q) (turned e (pos H) (pos u) ∙ ap (λ t. e *ℤ t) (mul_posℤ H u))
   where
     turned : (e h u : ℤ) → (h *ℤ e) *ℤ u ≡ e *ℤ (h *ℤ u)

@@ -1,13 +1,10 @@
 -- The rates at the slack of the game's end were found in the game.
-use Rattle.std.proofs.Common.{◌≡◌, ℕ, zero, suc, ◌+◌, List, [], ◌∷◌, length, Option, Some, None, refl, sym, ap, subst}
-use Rattle.std.proofs.lemmas.Option.{option_and_then_some, same_Some}
-use Rattle.mp_model.specs.Network.{Network, junction_at, junction_numbers}
+use Rattle.std.proofs.Common.{◌≡◌, ℕ, zero, suc, ◌+◌, List, [], ◌∷◌, Option, Some, None, subst}
+use Rattle.mp_model.specs.Network.{Network, junction_numbers}
 use Rattle.mp_flow.specs.declared.network.Place.{Place}
 use Rattle.mp_flow.specs.Systems.{Flows}
-use Rattle.mp_simplex.specs.Outcome.{maximised}
-use Rattle.mp_verdict.specs.Stated.{Stated, Reached, then, at_place, passed}
+use Rattle.mp_verdict.specs.Stated.{Reached, at_place, passed}
 use Rattle.mp_verdict.specs.Rates.{Rates, rates_at}
-use Rattle.mp_verdict.specs.Program.{program, optimum_at}
 use Rattle.mp_verdict.specs.Game.{Standing, Turn, Carried, Lowered, turn_limit, turn, after_turn, played, played_from, all_tried, after_junction, game}
 use Rattle.mp_verdict.specs.Laws.{RatesLaw}
 use Rattle.mp_verdict.proofs.Reaching.{then_reached, same_reached, at_place_reached}

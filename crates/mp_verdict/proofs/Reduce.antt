@@ -1,7 +1,7 @@
 -- A vector that is a multiple of another shows the same.
-use Rattle.std.proofs.Common.{◌≡◌, ◌==◌, ℕ, zero, suc, ◌+◌, ◌-◌, ◌*◌, ◌≤◌, ◌<◌, Bool, true, false, cond, List, [], ◌∷◌, filter, sum_by, Option, Some, None, ℤ, arith, sym, ◌∙◌, ap, mul-zero, mul-le-mul_left, ⊎_elim}
+use Rattle.std.proofs.Common.{◌≡◌, ◌==◌, ℕ, zero, suc, ◌+◌, ◌-◌, ◌*◌, ◌≤◌, ◌<◌, Bool, true, List, [], ◌∷◌, filter, sum_by, Option, Some, None, ℤ, arith, sym, ◌∙◌, ap, mul-zero, mul-le-mul_left, ⊎_elim}
 use Rattle.std.specs.List.{AllByRecursion}
-use Rattle.std.proofs.lemmas.Bool.{cases_lt, or_left, or_right, or_cases, false≢true}
+use Rattle.std.proofs.lemmas.Bool.{cases_lt, false≢true}
 use Rattle.std.proofs.lemmas.List.Sums.{sum_by-cons}
 use borrow.Author.Differences.{up, down}
 use Rattle.mp_model.specs.Network.{Network, Junction, movement_numbers, from_of, to_of, share_of, flow_of, rate_before, downstream, out_of_target, has}
@@ -9,19 +9,14 @@ use Rattle.mp_model.specs.NetworkRules.{IsNetwork}
 use Rattle.mp_model.specs.Pressure.{positive_weight, queued_downstream, pressure}
 use Rattle.mp_model.specs.Load.{junction_capacity, load, capacity}
 use Rattle.mp_laws.proofs.Sums.{sum_by-mul}
-use Rattle.mp_laws.proofs.Lists.{at_in}
+use Rattle.mp_laws.proofs.Lists.{at_in, filter_sub}
 use Rattle.mp_verdict.specs.Worst.{ShowsSigned}
 use Rattle.mp_verdict.proofs.Facts.{mul_cancel, sum_by-same_in}
 use Rattle.mp_verdict.proofs.Capacity.{scaled_top, GoodStages}
 use Rattle.mp_verdict.proofs.Vector.{slack_numbers, numbers_slack}
 
-kept : (p : ℕ → Bool) (x k : ℕ) (xs : List ℕ) (b : Bool) → (has (filter p xs) x ≡ true → has xs x ≡ true) → has (cond b (k ∷ filter p xs) (filter p xs)) x ≡ true → has (k ∷ xs) x ≡ true
-kept p x k xs true more h = ⊎_elim (λ e. or_left (k == x) (has xs x) e) (λ e. or_right (k == x) (has xs x) (more e)) (or_cases (k == x) (has (filter p xs) x) h)
-kept p x k xs false more h = or_right (k == x) (has xs x) (more h)
-
 pub of_filter : (p : ℕ → Bool) (x : ℕ) (xs : List ℕ) → has (filter p xs) x ≡ true → has xs x ≡ true
-of_filter p x [] h = h
-of_filter p x (k ∷ xs) h = kept p x k xs (p k) (of_filter p x xs) h
+of_filter p x xs h = filter_sub p xs x h
 
 of_target : (net : Network) (to : Option ℕ) (j : ℕ) → has (out_of_target net to) j ≡ true → has (movement_numbers net) j ≡ true
 of_target net None j h = absurd (false≢true h)

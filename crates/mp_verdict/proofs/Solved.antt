@@ -1,5 +1,5 @@
 -- A solved program of a junction, over natural numbers.
-use Rattle.std.proofs.Common.{◌≡◌, ℕ, length, map, sum_by, ℤ, pos, ◌*ℤ◌, ◌≤ℤ◌, unsigned_abs}
+use Rattle.std.proofs.Common.{◌≡◌, ℕ, map, sum_by, ℤ, pos, ◌*ℤ◌, ◌≤ℤ◌, unsigned_abs}
 use Rattle.std.specs.List.{AllByRecursion}
 use Rattle.mp_model.specs.Network.{Network, Junction, own}
 use Rattle.mp_laws.proofs.PlainCertificate.{PlainMix}

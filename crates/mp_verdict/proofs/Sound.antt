@@ -1,5 +1,5 @@
 -- What holds of the standing after some junctions.
-use Rattle.std.proofs.Common.{◌≡◌, ◌≤◌, ℕ, List, [], ℤ, pos, ◌≤ℤ◌, unsigned_abs, Option, Some, None}
+use Rattle.std.proofs.Common.{◌≡◌, ◌≤◌, ℕ, [], pos, ◌≤ℤ◌, unsigned_abs, Option, Some, None}
 use Rattle.std.specs.List.{AllByRecursion}
 use Rattle.mp_model.specs.Network.{Network, junction_at, own}
 use Rattle.mp_num.specs.Fraction.{IsLowest}

@@ -1,6 +1,6 @@
 -- The laws of the game.
-use Rattle.std.proofs.Common.{◌≡◌, ℕ, zero, suc, ◌+◌, ◌-◌, ◌*◌, ◌≤◌, ◌<◌, Bool, true, false, cond, List, [], ◌∷◌, length, map, sum_by, ℤ, pos, negsuc, ◌+ℤ◌, ◌*ℤ◌, ◌≤ℤ◌, unsigned_abs, Option, Some, None, arith, refl, sym, ◌∙◌, ap, ap₂, subst}
-use Rattle.std.specs.List.{AllByRecursion, range_with_len}
+use Rattle.std.proofs.Common.{◌≡◌, ℕ, zero, suc, ◌+◌, ◌-◌, ◌*◌, ◌≤◌, Bool, true, false, cond, List, [], ◌∷◌, length, map, sum_by, ℤ, pos, ◌+ℤ◌, ◌*ℤ◌, ◌≤ℤ◌, unsigned_abs, Some, None, arith, refl, ◌∙◌, ap, ap₂}
+use Rattle.std.specs.List.{AllByRecursion}
 use Rattle.std.proofs.lemmas.Int.{ints}
 use Rattle.std.proofs.lemmas.List.{length-map}
 use Rattle.std.proofs.lemmas.List.Sums.{sum_by-cons}
@@ -11,15 +11,13 @@ use Rattle.mp_model.specs.Certificate.{int_entry, parts_with}
 use Rattle.mp_laws.proofs.PlainCertificate.{plain_parts_with}
 use Rattle.mp_laws.proofs.Lists.{AllOf-map, at_number, all_in}
 use Rattle.mp_num.specs.Fraction.{Fraction, IsLowest}
-use Rattle.mp_num.proofs.Ring.{diff_of, differences, diff-eq}
 use Rattle.mp_flow.specs.Systems.{Flows, AreFlows}
-use Rattle.mp_verdict.specs.Game.{Standing}
-use Rattle.mp_verdict.specs.Laws.{exact_need, CarriesSlack, StandsAfter, SatisfiedLaw, BoundedLaw, MotionLaw}
+use Rattle.mp_verdict.specs.Laws.{exact_need, CarriesSlack, SatisfiedLaw, BoundedLaw, MotionLaw}
 use Rattle.mp_verdict.proofs.Plain.{CarriesAt, asked, unit_asked}
 use Rattle.mp_verdict.proofs.Signed.{mul_posℤ}
 use Rattle.mp_verdict.proofs.Falls.{good_at}
 use Rattle.mp_verdict.proofs.FlowNumbers.{abs_is, positive_is, entry_sign}
-use Rattle.mp_verdict.proofs.RatesAt.{d_of, f_of, g_of}
+use Rattle.mp_verdict.proofs.RatesAt.{d_of, f_of, g_of, need_law}
 use Rattle.mp_verdict.proofs.Sound.{IsSound, weights_of}
 use Rattle.mp_verdict.proofs.Programs.{no_ray}
 use Rattle.mp_verdict.proofs.Whole.{some_sound, game_sound, some_own}
@@ -40,12 +38,6 @@ sum_pos (y ∷ ys) = omega (arith, ints, sum_pos ys, sum_by-cons (λ y. y) y ys)
 all_pos : (xs : List ℕ) → AllByRecursion (λ y. pos 0 ≤ℤ y) (map pos xs)
 all_pos [] = tt
 all_pos (x ∷ xs) = (omega (arith, ints), all_pos xs)
-
-need_law : (x q H u : ℕ) (e : ℤ) → pos x *ℤ pos q +ℤ ((pos H *ℤ e) *ℤ pos u) ≡ pos (x * q) +ℤ (e *ℤ pos (H * u))
-need_law x q H u e = ap₂ (λ a b. a +ℤ b) (mul_posℤ x q) (turned e (pos H) (pos u) ∙ ap (λ t. e *ℤ t) (mul_posℤ H u))
-  where
-    turned : (e h u : ℤ) → (h *ℤ e) *ℤ u ≡ e *ℤ (h *ℤ u)
-    turned e h u = rw (diff_of e, diff_of h, diff_of u) (simp differences (diff-eq _ _ _ _ (omega arith)))
 
 mass_pos : (s m G q : ℕ) (S T : ℤ) → S ≡ pos s → T ≡ pos (G * q) → s ≤ m * (G * q) → S ≤ℤ (pos m *ℤ T)
 mass_pos s m G q S T e f le = let p : pos m *ℤ T ≡ pos (m * (G * q)) = ap (λ t. pos m *ℤ t) f ∙ mul_posℤ m (G * q) in omega (arith, ints, e, p, le)

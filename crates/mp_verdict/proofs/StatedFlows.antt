@@ -1,5 +1,5 @@
 -- The flows and worths of the stated calculation are those of the network.
-use Rattle.std.proofs.Common.{◌≡◌, ℕ, ◌+◌, ◌*◌, ◌<◌, List, [], ◌∷◌, length, get_or, map, take, drop, ℤ, pos, ◌≤ℤ◌, Option, Some, None, arith, refl, sym, ◌∙◌, ap, subst, All}
+use Rattle.std.proofs.Common.{◌≡◌, ◌+◌, List, length, map, ℤ, pos, ◌≤ℤ◌, Some, arith, refl, ◌∙◌, ap, subst, All}
 use Rattle.std.proofs.lemmas.List.{length-map, length-append}
 use Rattle.std.proofs.lemmas.List.FromFn.{length-range_with_len, get_or-map-range_with_len}
 use Rattle.std.proofs.lemmas.Option.{same_Some}

@@ -1,5 +1,5 @@
 -- The turns of a junction keep the standing sound, and leave one that the junction carries.
-use Rattle.std.proofs.Common.{◌≡◌, ℕ, zero, suc, ◌+◌, ◌-◌, ◌*◌, ◌≤◌, ◌<◌, Bool, true, false, List, length, map, sum_by, ℤ, pos, ◌-ℤ◌, ◌*ℤ◌, ◌≤ℤ◌, ◌<ℤ◌, int_lt, unsigned_abs, Option, Some, None, arith, refl, sym, ◌∙◌, ap, subst, mul-le-mul, mul-le-mul_right, ⊎_elim}
+use Rattle.std.proofs.Common.{◌≡◌, ℕ, zero, suc, ◌+◌, ◌-◌, ◌*◌, ◌≤◌, ◌<◌, Bool, true, false, List, length, sum_by, ℤ, pos, ◌-ℤ◌, ◌*ℤ◌, ◌≤ℤ◌, ◌<ℤ◌, int_lt, unsigned_abs, Some, arith, refl, sym, ◌∙◌, ap, subst, mul-le-mul, mul-le-mul_right, ⊎_elim}
 use Rattle.std.specs.List.{AllByRecursion}
 use Rattle.std.proofs.lemmas.Int.{ints}
 use Rattle.std.proofs.lemmas.Bool.{cases_lt}
@@ -14,8 +14,8 @@ use Rattle.mp_flow.specs.declared.network.Place.{Place}
 use Rattle.mp_flow.specs.Systems.{Flows, AreFlows}
 use Rattle.mp_simplex.specs.declared.Optimum.{Optimum}
 use Rattle.mp_simplex.specs.Outcome.{maximised}
-use Rattle.mp_verdict.specs.Worst.{IsFlow, rate_weight, unit_weight, IsSlackOf}
-use Rattle.mp_verdict.specs.Stated.{Stated, Reached, then, at_place}
+use Rattle.mp_verdict.specs.Worst.{rate_weight, unit_weight, IsSlackOf}
+use Rattle.mp_verdict.specs.Stated.{Stated, Reached, at_place}
 use Rattle.mp_verdict.specs.Passing.{times, less, num, summed}
 use Rattle.mp_verdict.specs.Rates.{Rates, period_unit, rate_need, unit_need, rates_at}
 use Rattle.mp_verdict.specs.Program.{program, optimum_at}
@@ -59,7 +59,7 @@ over_numbers S m D vd n some e lt =
 
 module _ (net : Network) (ok : IsNetwork net) (flows : Flows) (are : AreFlows net flows) where
   -- the slack that an optimum's values give
-  next_slack : (j : Junction) (values : List ℤ) (den : ℤ) (a : Fraction) → AllByRecursion (λ z. pos 0 ≤ℤ z) values → pos 1 ≤ℤ den → 1 ≤ sum_by (values_of (own net j) values) (movement_numbers net) → slack_of net flows (own net j) values den ≡ Some a →
+  pub next_slack : (j : Junction) (values : List ℤ) (den : ℤ) (a : Fraction) → AllByRecursion (λ z. pos 0 ≤ℤ z) values → pos 1 ≤ℤ den → 1 ≤ sum_by (values_of (own net j) values) (movement_numbers net) → slack_of net flows (own net j) values den ≡ Some a →
       IsLowest a.num a.den × IsSlackOf net (d_of flows) (f_of flows) (g_of flows) (values_of (own net j) values) (unsigned_abs den) a.num (unsigned_abs a.den)
   unfolding slack_of
   next_slack j values den a all one some e =

@@ -1,5 +1,5 @@
 -- What a calculation gives where it doesn't pass.
-use Rattle.std.proofs.Common.{◌≡◌, ℕ, ℤ, pos, ◌+ℤ◌, ◌-ℤ◌, ◌*ℤ◌, ap₂, sym, ◌∙◌, List, [], ◌∷◌, sum_by, arith, refl, Option, Some}
+use Rattle.std.proofs.Common.{◌≡◌, ℕ, ℤ, pos, ◌+ℤ◌, ◌-ℤ◌, ◌*ℤ◌, ap₂, sym, ◌∙◌, List, [], ◌∷◌, sum_by, arith, Option, Some}
 use Rattle.std.specs.List.{AllByRecursion}
 use Rattle.std.proofs.lemmas.Int.{ints}
 use Rattle.std.proofs.lemmas.Option.{option_and_then_some, same_Some}

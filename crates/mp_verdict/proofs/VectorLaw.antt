@@ -1,13 +1,12 @@
 -- The laws of the vector.
-use Rattle.std.proofs.Common.{◌≡◌, ◌≤◌, ℕ, zero, suc, ◌+◌, ◌-◌, ◌*◌, List, length, sum_by, ℤ, pos, negsuc, ◌-ℤ◌, arith, sym, ◌∙◌}
+use Rattle.std.proofs.Common.{◌≡◌, ℕ, zero, suc, ◌+◌, ◌-◌, ◌*◌, sum_by, pos, negsuc, ◌-ℤ◌, arith}
 use Rattle.std.proofs.lemmas.Int.{ints}
-use Rattle.mp_model.specs.Network.{Network, link_numbers, movement_numbers, share_of, out_of, entry}
-use Rattle.mp_model.specs.NetworkRules.{IsNetwork}
+use Rattle.mp_model.specs.Network.{link_numbers, movement_numbers, share_of, out_of, entry}
 use Rattle.mp_model.specs.Pressure.{weight, queued_downstream}
 use Rattle.mp_model.specs.Load.{load, capacity}
 use Rattle.mp_laws.proofs.Lists.{each_in}
-use Rattle.mp_verdict.specs.Worst.{against, ShowsSigned}
-use Rattle.mp_verdict.specs.VectorLaws.{FactsLaw, VectorLaw, SignLaw, ShowsBySign}
+use Rattle.mp_verdict.specs.Worst.{against}
+use Rattle.mp_verdict.specs.VectorLaws.{FactsLaw, VectorLaw, SignLaw}
 use Rattle.mp_verdict.proofs.Facts.{fact1, fact2, fact3, fact4}
 use Rattle.mp_verdict.proofs.Capacity.{fact5}
 use Rattle.mp_verdict.proofs.Vector.{vector_shows, shows_critical, shows_overloaded, slack_numbers}

@@ -1,5 +1,5 @@
 -- The calculated vector is the vector of the law, divided by a number.
-use Rattle.std.proofs.Common.{◌≡◌, ◌==◌, ℕ, suc, ◌+◌, ◌-◌, ◌*◌, ◌≤◌, ◌<◌, Bool, true, false, cond, List, [], ◌∷◌, length, get_or, map, sum_by, ℤ, pos, negsuc, ◌+ℤ◌, ◌*ℤ◌, ◌≤ℤ◌, unsigned_abs, Option, Some, None, arith, refl, sym, ◌∙◌, ap, ap₂, subst, mul-le-mul, All}
+use Rattle.std.proofs.Common.{◌≡◌, ◌==◌, ℕ, suc, ◌+◌, ◌-◌, ◌*◌, ◌≤◌, ◌<◌, Bool, true, false, cond, List, [], ◌∷◌, length, get_or, sum_by, ℤ, pos, negsuc, ◌+ℤ◌, ◌*ℤ◌, ◌≤ℤ◌, unsigned_abs, Some, arith, refl, sym, ◌∙◌, ap, ap₂, subst, mul-le-mul, All}
 use Rattle.std.specs.List.{AllByRecursion}
 use Rattle.std.proofs.lemmas.Int.{ints}
 use Rattle.std.proofs.lemmas.List.Elements.{All-from_get_or}
@@ -13,11 +13,11 @@ use Rattle.mp_num.specs.Divisor.{reduced}
 use Rattle.mp_num.specs.Passing.{each}
 use Rattle.mp_num.proofs.OutcomeLemmas.{option_map_some, each_some}
 use Rattle.mp_num.proofs.RowLemmas.{reduced_multiple}
-use Rattle.mp_flow.specs.Systems.{Worths, AreWorths, stated_worths, onward}
-use Rattle.mp_verdict.specs.Passing.{times, plus, num, sum_of}
+use Rattle.mp_flow.specs.Systems.{Worths, stated_worths, onward}
+use Rattle.mp_verdict.specs.Passing.{times, num}
 use Rattle.mp_verdict.specs.Game.{Standing}
 use Rattle.mp_verdict.specs.Vector.{value_beside, spread, link_value, link_values, vector_entry, vector_by, vector_of}
-use Rattle.mp_verdict.specs.Worst.{IsWorth, IsDivided, against, ahead}
+use Rattle.mp_verdict.specs.Worst.{IsWorth, IsDivided, against}
 use Rattle.mp_verdict.proofs.Plain.{values_of}
 use Rattle.mp_verdict.proofs.Signed.{mul_posℤ}
 use Rattle.mp_verdict.proofs.Values.{Gives, gives-some, gives-times, gives-plus, gives-same, gives-sum}

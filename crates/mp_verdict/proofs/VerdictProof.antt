@@ -1,5 +1,5 @@
 -- The laws of the verdict.
-use Rattle.std.proofs.Common.{◌≡◌, ◌↔◌, ℕ, zero, suc, ◌+◌, ◌-◌, ◌*◌, ◌≤◌, List, [], ◌∷◌, length, get_or, map, sum_by, ℤ, pos, negsuc, ◌+ℤ◌, ◌*ℤ◌, ◌≤ℤ◌, unsigned_abs, Option, Some, None, arith, refl, sym, ◌∙◌, ap, ap₂, subst, mul-le-mul, mul-le-mul_left, All}
+use Rattle.std.proofs.Common.{◌≡◌, ℕ, zero, suc, ◌+◌, ◌-◌, ◌*◌, ◌≤◌, List, [], ◌∷◌, length, get_or, map, sum_by, ℤ, pos, negsuc, ◌+ℤ◌, ◌*ℤ◌, ◌≤ℤ◌, unsigned_abs, Option, Some, None, arith, refl, sym, ◌∙◌, ap, subst, mul-le-mul}
 use Rattle.std.specs.List.{AllByRecursion}
 use Rattle.std.proofs.lemmas.Int.{ints}
 use Rattle.std.proofs.lemmas.List.{length-map}
@@ -7,26 +7,25 @@ use Rattle.std.proofs.lemmas.List.Elements.{All-from_recursion}
 use Rattle.std.proofs.Math.Nat.{le_of_mul-le-mul_left}
 use Rattle.mp_model.specs.Network.{Network, movement_numbers, numbers_to, entry}
 use Rattle.mp_model.specs.NetworkRules.{IsNetwork}
-use Rattle.mp_model.specs.Certificate.{Cert, MeetsRules, Certifies}
-use Rattle.mp_model.specs.Load.{load, capacity, IsCritical, IsOverloaded, IsTight, IsVector}
+use Rattle.mp_model.specs.Certificate.{Cert, Certifies}
+use Rattle.mp_model.specs.Load.{load, capacity, IsOverloaded, IsVector}
 use Rattle.mp_model.specs.Slack.{IsSlack, ShowsSlack, IsGreatestSlack}
 use Rattle.mp_laws.proofs.Tied.{margin_of}
-use Rattle.mp_num.specs.Fraction.{Fraction}
 use Rattle.mp_flow.specs.declared.network.Place.{Place}
 use Rattle.mp_flow.specs.Systems.{Flows, AreFlows, stated_flows}
-use Rattle.mp_verdict.specs.Stated.{Stated, Reached, then, at_place}
-use Rattle.mp_verdict.specs.Rates.{Rates, rates_at}
+use Rattle.mp_verdict.specs.Stated.{Reached, at_place}
+use Rattle.mp_verdict.specs.Rates.{rates_at}
 use Rattle.mp_verdict.specs.Game.{Standing, game}
 use Rattle.mp_verdict.specs.Vector.{vector_of}
 use Rattle.mp_verdict.specs.Mixes.{mixes, certificate_of, certificate_at}
 use Rattle.mp_verdict.specs.Verdict.{Verdict, Admitted, Critical, Overloaded, Motionless, judged, verdict_after, verdict}
 use Rattle.mp_verdict.specs.Worst.{IsDivided, against, ShowsSigned}
 use Rattle.mp_verdict.specs.VectorLaws.{ShowsBySign}
-use Rattle.mp_verdict.specs.Laws.{IsAdmitted, IsNatural, Holds, CertifiedLaw, VerdictLaw, IsApart, ApartLaw, SaysAdmitted, SaysCritical, SaysOverloaded, IsExact, ExactLaw}
+use Rattle.mp_verdict.specs.Laws.{IsNatural, Holds, CertifiedLaw, VerdictLaw, ApartLaw, ExactLaw}
 use Rattle.mp_verdict.proofs.Plain.{CarriesAt}
-use Rattle.mp_verdict.proofs.FlowNumbers.{abs_is, positive_is, above_one, flow_is, naturals_in}
+use Rattle.mp_verdict.proofs.FlowNumbers.{positive_is, above_one, flow_is}
 use Rattle.mp_verdict.proofs.RatesAt.{d_of, f_of, g_of}
-use Rattle.mp_verdict.proofs.Sound.{IsSound, IsSoundAt, weights_of}
+use Rattle.mp_verdict.proofs.Sound.{IsSound, weights_of}
 use Rattle.mp_verdict.proofs.Reaching.{then_reached, same_reached, at_place_reached}
 use Rattle.mp_verdict.proofs.StatedFlows.{flows_are}
 use Rattle.mp_verdict.proofs.Whole.{game_sound, game_end}
@@ -87,11 +86,14 @@ module _ (net : Network) (ok : IsNetwork net) (flows : Flows) (are : AreFlows ne
       let tight = sign_shown (pos zero) e in
       let carried : AllByRecursion (CarriesAt net (d_of flows) (f_of flows) (g_of flows) (pos 0) (unsigned_abs st.slack.den)) net.junctions =
       subst (λ (z : ℤ). AllByRecursion (CarriesAt net (d_of flows) (f_of flows) (g_of flows) z (unsigned_abs st.slack.den)) net.junctions) e (game_end net ok flows are st sound).carries in
-      subst (Holds net) (same_reached (Critical p) w h)
-      (natural, tight, record {
-        tight = (map unsigned_abs p, tight);
-        none = λ p' is. none_overloads net ok (d_of flows) (f_of flows) (g_of flows) (flow_is net flows are) 0 (unsigned_abs st.slack.den) sound.worst.slack.some carried (entry p');
-      })
+      subst (Holds net) (same_reached (Critical p) w h) (
+        natural,
+        tight,
+        record {
+          tight = (map unsigned_abs p, tight);
+          none = λ p' is. none_overloads net ok (d_of flows) (f_of flows) (g_of flows) (flow_is net flows are) 0 (unsigned_abs st.slack.den) sound.worst.slack.some carried (entry p');
+        },
+      )
   judged_holds (pos (suc n)) e w h =
       then_reached (certificate_at net flows st.slack) _ w h (λ cert hc e1.
       (let c = certified_by net ok flows are st sound n e cert hc in
@@ -99,15 +101,17 @@ module _ (net : Network) (ok : IsNetwork net) (flows : Flows) (are : AreFlows ne
       let P : ℤ → Type 0 = λ z. IsSlack cert (unsigned_abs z) (unsigned_abs st.slack.den) in
       let Q : ℤ → Type 0 = λ z. ShowsSlack net (map unsigned_abs p) (unsigned_abs z) (unsigned_abs st.slack.den) in
       let R : ℤ → Type 0 = λ z. IsGreatestSlack net (unsigned_abs z) (unsigned_abs st.slack.den) in
-      subst (Holds net) (same_reached (Admitted cert p st.slack) w e1)
-      (natural, record {
-        above = omega (arith, ints, e);
-        denominator = sound.lowest.positive;
-        certifies = c.0;
-        reaches = subst P (sym e) c.1;
-        shows = subst Q (sym e) s;
-        greatest = subst R (sym e) (record { above = omega arith; reached = (cert, c.0, c.1); shown = (map unsigned_abs p, s) });
-      })))
+      subst (Holds net) (same_reached (Admitted cert p st.slack) w e1) (
+        natural,
+        record {
+          above = omega (arith, ints, e);
+          denominator = sound.lowest.positive;
+          certifies = c.0;
+          reaches = subst P (sym e) c.1;
+          shows = subst Q (sym e) s;
+          greatest = subst R (sym e) (record { above = omega arith; reached = (cert, c.0, c.1); shown = (map unsigned_abs p, s) });
+        },
+      )))
   judged_holds (negsuc n) e w h = subst (Holds net) (same_reached (Overloaded p) w h) (natural, sign_shown (negsuc n) e)
 
 after_holds : {X : Type 0} (net : Network) → IsNetwork net → (weighed : List ℤ → Option X) (flows : Flows) → AreFlows net flows → (standing : Option Standing) → game net flows ≡ Reached standing → (w : Verdict) → verdict_after net weighed flows standing ≡ Reached w → Holds net w

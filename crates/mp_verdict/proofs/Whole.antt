@@ -1,18 +1,17 @@
 -- The whole game.
-use Rattle.std.proofs.Common.{◌≡◌, ℕ, zero, suc, ◌+◌, ◌-◌, ◌≤◌, ◌<◌, Bool, true, false, cond, List, [], ◌∷◌, length, get_or, sum_by, unsigned_abs, Option, Some, None, arith, refl, sym, ◌∙◌, ap, subst, ⊎_elim}
-use Rattle.std.specs.List.{AllByRecursion, range_with_len}
+use Rattle.std.proofs.Common.{◌≡◌, ℕ, zero, suc, ◌+◌, ◌≤◌, ◌<◌, Bool, true, false, cond, List, [], ◌∷◌, length, get_or, sum_by, unsigned_abs, Option, Some, None, arith, refl, sym, ◌∙◌, ap, subst, ⊎_elim}
+use Rattle.std.specs.List.{range_with_len}
 use Rattle.std.proofs.lemmas.Option.{option_and_then_some, same_Some}
 use Rattle.std.proofs.lemmas.Bool.{cases_lt, false≢true}
 use Rattle.std.proofs.lemmas.List.Sums.{sum_by-cons}
 use Rattle.mp_model.specs.Network.{Network, Junction, movement_numbers, junction_at, own, stands_in, has, no_junction, numbers_to}
 use Rattle.mp_model.specs.NetworkRules.{IsNetwork}
 use Rattle.mp_laws.proofs.Lists.{all_in, all_places, at_in, has_filter, back_one}
-use Rattle.mp_num.specs.Fraction.{Fraction}
 use Rattle.mp_num.specs.Passing.{run}
 use Rattle.mp_num.proofs.OutcomeLemmas.{option_map_some}
 use Rattle.mp_flow.specs.declared.network.Place.{Place}
 use Rattle.mp_flow.specs.Systems.{Flows, AreFlows}
-use Rattle.mp_verdict.specs.Stated.{Stated, Reached, then, at_place, passed}
+use Rattle.mp_verdict.specs.Stated.{Reached, at_place, passed}
 use Rattle.mp_verdict.specs.Game.{Standing, slack_alone, is_lower, alone, taken, tried, all_tried, turn_limit, played, played_from, after_junction, game}
 use Rattle.mp_verdict.proofs.Plain.{CarriesAt, IsEnd}
 use Rattle.mp_verdict.proofs.RatesAt.{d_of, f_of, g_of}

@@ -9,3 +9,5 @@ pub mod Verdict
 pub mod Worst
 pub mod VectorLaws
 pub mod Laws
+pub mod WorkedVerdicts
+pub mod TurnLaws

@@ -1,5 +1,5 @@
 -- The words of the laws of the vector, over natural numbers: flows and worths as functions of the link, values as functions of the movement.
-use Rattle.std.specs.Prelude.{◌≡◌, ◌≤◌, ℕ, ◌+◌, ◌*◌, true, false, map, length, sum_by, Option, Some, None, ℤ, pos, ◌+ℤ◌, ◌-ℤ◌, ◌*ℤ◌}
+use Rattle.std.specs.Prelude.{◌≡◌, ◌≤◌, ℕ, ◌+◌, ◌*◌, true, false, map, length, sum_by, Option, Some, None, ℤ, pos, ◌-ℤ◌, ◌*ℤ◌}
 use Rattle.std.specs.List.{AllByRecursion}
 use Rattle.mp_model.specs.Network.{Network, Junction, link_numbers, movement_numbers, junction_at, link_at, from_of, to_of, share_of, flow_of, into_link, out_of, stands_in, has}
 use Rattle.mp_model.specs.Load.{greatest, load, capacity}

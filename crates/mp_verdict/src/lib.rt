@@ -2,7 +2,9 @@
 #![tactic(auto)]
 
 ghost use Rattle.mp_verdict.specs.Laws.{ApartLaw, BoundedLaw, CertifiedLaw, ExactLaw, MotionLaw, RatesLaw, SatisfiedLaw, VerdictLaw};
+ghost use Rattle.mp_verdict.specs.TurnLaws.{FallsLaw, RoundsLaw};
 ghost use Rattle.mp_verdict.specs.VectorLaws.{FactsLaw, SignLaw, VectorLaw};
+ghost use Rattle.mp_verdict.specs.WorkedVerdicts.{AreWorkedVerdicts};
 
 /// The five facts of the vector that shows a slack.
 pub fn facts_law()
@@ -22,6 +24,16 @@ pub fn sign_law()
 /// No program of a junction grows without end.
 pub fn bounded_law()
     ensures { BoundedLaw }
+{}
+
+/// Each turn lowers the slack, until the junction carries it.
+pub fn falls_law()
+    ensures { FallsLaw }
+{}
+
+/// The play of a junction ends by its turns alone.
+pub fn rounds_law()
+    ensures { RoundsLaw }
 {}
 
 /// In the game the earlier junctions stay satisfied, and the slack is always that of a worst junction.
@@ -57,4 +69,9 @@ pub fn apart_law()
 /// A verdict that holds of a network is the only one.
 pub fn exact_law()
     ensures { ExactLaw }
+{}
+
+/// The verdicts on the worked networks.
+pub fn worked_verdicts()
+    ensures { AreWorkedVerdicts }
 {}
