@@ -1,6 +1,11 @@
-pub mod Views
-pub mod Passing
-pub mod Rules
 pub mod Checking
 pub mod FirstBroken
+pub mod Passing
+pub mod Rules
+pub mod TextFaults
+pub mod TextLaws
+pub mod TextMeaning
+pub mod TextReading
+pub mod Texts
+pub mod Views
 pub mod Weighing

@@ -4,15 +4,27 @@
 mod checking;
 mod lengths;
 mod places;
+mod print;
+mod read;
+mod read_lines;
+mod read_numbers;
 mod rules;
 mod slacks;
 #[cfg(test)]
 mod tests;
+mod text_fault;
+mod text_laws;
+#[cfg(test)]
+mod text_tests;
 mod types;
 mod weighing;
 
 pub use crate::checking::check;
 pub use crate::lengths::has_lengths;
+pub use crate::print::{print_against, print_cert};
+pub use crate::read::{read_against, read_cert};
 pub use crate::slacks::slack;
+pub use crate::text_fault::TextFault;
+pub use crate::text_laws::{cert_length_law, cert_text_law, vector_length_law, vector_text_law};
 pub use crate::types::{Against, Cert, CertFault, Mix, Mixes, Overflow, Weighed};
 pub use crate::weighing::weigh;

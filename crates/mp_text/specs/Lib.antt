@@ -1,3 +1,4 @@
+pub mod Bigs
 pub mod Buffered
 pub mod Cut
 pub mod Cutting

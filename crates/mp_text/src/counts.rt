@@ -4,14 +4,14 @@ ghost use Rattle.std.specs.List.{list_all};
 ghost use Rattle.std.specs.Str.Parse.{digits_value};
 ghost use Rattle.mp_model.specs.Stream.{is_digit, is_plain, count_of};
 
-fn are_digits(bytes: &[u8]) -> bool
+pub(crate) fn are_digits(bytes: &[u8]) -> bool
     ensures { result ≡ list_all is_digit bytes.now }
 {
     bytes.iter().all(|b| *b >= b'0' && *b <= b'9')
 }
 
 // There is a first byte, and it is no leading zero.
-fn is_plain(bytes: &[u8]) -> bool
+pub(crate) fn is_plain(bytes: &[u8]) -> bool
     ensures { result ≡ is_plain bytes.now }
 {
     match bytes {

@@ -1,11 +1,13 @@
 //! Lines off a source, counts, digits, and a sink over a fixed buffer.
 #![tactic(auto)]
 
+mod bigs;
 mod counts;
 mod cutter;
 mod line_sink;
 mod put;
 
+pub use bigs::read_big;
 pub use counts::read_count;
 pub use cutter::{LineCutter, LineStep};
 pub use line_sink::LineSink;
