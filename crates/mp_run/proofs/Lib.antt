@@ -1,4 +1,5 @@
 pub mod AboveLemmas
+pub mod BoundLemmas
 pub mod BucketLemmas
 pub mod LineLemmas
 pub mod PeriodLemmas

@@ -7,17 +7,16 @@ use Rattle.std.proofs.lemmas.List.Sums.{sum_by-cons}
 use Rattle.std.proofs.lemmas.List.Elements.{All-cons}
 use Rattle.mp_model.specs.Network.{Network, Junction, movement_numbers, entry}
 use Rattle.mp_model.specs.NetworkRules.{IsInRange}
-use Rattle.mp_model.specs.Arrivals.{arrivals_of, HasCounts}
+use Rattle.mp_model.specs.Arrivals.{HasCounts}
 use Rattle.mp_model.specs.Stream.LineKind.{arrivals_line}
-use Rattle.mp_model.specs.Step.{State, AreStages, queue, queued, step}
+use Rattle.mp_model.specs.Step.{State, AreStages, queue, queued}
 use Rattle.mp_model.specs.Run.{greatest_stages, advance}
 use Rattle.mp_model.specs.Log.{text_of, period_line, line_after, end_line, end_line_of}
 use Rattle.mp_edge.specs.Outside.{Tells, Puts, GainsPrefix}
 use Rattle.mp_edge.proofs.Told.{Tells-weaker}
-use Rattle.mp_laws.specs.Buckets.{IsFirstAbove}
 use Rattle.mp_step.specs.Taken.{HasTaken}
 use Rattle.mp_run.specs.Running.{TakesLine, Finishes}
-use Rattle.mp_run.specs.declared.run.RunEnd.TheVariants.{Done, Write, Above}
+use Rattle.mp_run.specs.declared.run.RunEnd.TheVariants.{Done, Write}
 use Rattle.mp_log.specs.Fitting.{FitsLine}
 use Rattle.mp_log.proofs.FedLemmas.{fed_few}
 use Rattle.mp_press.specs.Queues.{naturals, NoneNegative}
@@ -27,15 +26,7 @@ use Rattle.mp_step.specs.Standing.{Standing, IsOn, Stands}
 pub one_line : (line : List ℕ) → text_of (line ∷ []) ≡ line ++ 10 ∷ []
 one_line line = append-nil (line ++ 10 ∷ [])
 
--- a period with the greatest stages advances the run
-pub advanced : (net : Network) (stages counts : List ℕ) (old new : Standing) → stages ≡ greatest_stages net (entry old.queues)
-    → ((state : State) → Stands net old state → Stands net new (step net stages (arrivals_of net counts) state))
-    → (state : State) → Stands net old state → Stands net new (advance net counts state)
-advanced net stages counts old new chosen closes state stands =
-    let same : stages ≡ greatest_stages net (queue state) = chosen ∙ ap (λ q. greatest_stages net (entry q)) stands.queues in
-    subst (λ s. Stands net new (step net s (arrivals_of net counts) state)) same (closes state stands)
-
--- and its line is that of the run
+-- the line of a period is that of the run
 pub line_is : (net : Network) (stages counts : List ℕ) (old new : Standing) → stages ≡ greatest_stages net (entry old.queues)
     → (state : State) → Stands net old state → Stands net new (advance net counts state) → period_line new.period counts stages new.queues ++ 10 ∷ [] ≡ text_of (line_after net state counts ∷ [])
 line_is net stages counts old new chosen state stands after =
@@ -104,35 +95,29 @@ pub signed_is : (zs : List ℤ) (ns : List ℕ) → NoneNegative zs → naturals
 signed_is zs ns none same = sym none ∙ ap (map pos) same
 
 -- the line that is put is that of the run
-put_line : (net : Network) (stages counts shown : List ℕ) (old new : Standing) (period : ℕ) → stages ≡ greatest_stages net (entry old.queues)
-    → ((state : State) → Stands net old state → Stands net new (step net stages (arrivals_of net counts) state)) → period ≡ new.period → shown ≡ stages
-    → (state : State) → Stands net old state → period_line period counts shown new.queues ++ 10 ∷ [] ≡ text_of (line_after net state counts ∷ [])
-put_line net stages counts shown old new period chosen closes is same state stands =
-    ap (λ p. period_line p counts shown new.queues ++ 10 ∷ []) is ∙ ap (λ s. period_line new.period counts s new.queues ++ 10 ∷ []) same
-    ∙ line_is net stages counts old new chosen state stands (advanced net stages counts old new chosen closes state stands)
+put_line : (net : Network) (counts stages : List ℕ) (old new : Standing) (period : ℕ) → stages ≡ greatest_stages net (entry old.queues) → ((state : State) → Stands net old state → Stands net new (advance net counts state)) → period ≡ new.period
+    → (state : State) → Stands net old state → period_line period counts stages new.queues ++ 10 ∷ [] ≡ text_of (line_after net state counts ∷ [])
+put_line net counts stages old new period chosen advances is state stands =
+    ap (λ p. period_line p counts stages new.queues ++ 10 ∷ []) is ∙ line_is net stages counts old new chosen state stands (advances state stands)
 
 -- a put that succeeds closes the period
-pub closes_period : (net : Network) (stages counts shown : List ℕ) (old new : Standing) (period n : ℕ) (was now : Option (List ℕ)) → stages ≡ greatest_stages net (entry old.queues) → ((A : List (List ℕ)) → HasTaken net old A → HasTaken net new (A ++ counts ∷ []))
-    → ((state : State) → Stands net old state → Stands net new (step net stages (arrivals_of net counts) state)) → period ≡ new.period → shown ≡ stages
-    → Tells was now (λ before after. after ≡ before ++ (period_line period counts shown new.queues ++ 10 ∷ [])) → TakesLine net (arrivals_line counts) n None old new was now
-closes_period net stages counts shown old new period n was now chosen takes closes is same told = record {
-  moved = advanced net stages counts old new chosen closes;
+pub closes_period : (net : Network) (counts stages : List ℕ) (old new : Standing) (period n : ℕ) (was now : Option (List ℕ)) → stages ≡ greatest_stages net (entry old.queues) → ((A : List (List ℕ)) → HasTaken net old A → HasTaken net new (A ++ counts ∷ []))
+    → ((state : State) → Stands net old state → Stands net new (advance net counts state)) → period ≡ new.period → Tells was now (λ before after. after ≡ before ++ (period_line period counts stages new.queues ++ 10 ∷ []))
+    → TakesLine net (arrivals_line counts) n None old new was now
+closes_period net counts stages old new period n was now chosen takes advances is told = record {
+  moved = advances;
   taken = takes;
-  written = λ state stands. Tells-weaker _ _ _ _ (λ before after e. e ∙ ap (λ xs. before ++ xs) (put_line net stages counts shown old new period chosen closes is same state stands)) told;
+  written = λ state stands. Tells-weaker _ _ _ _ (λ before after e. e ∙ ap (λ xs. before ++ xs) (put_line net counts stages old new period chosen advances is state stands)) told;
 }
 
 -- one that fails cuts its line short
-pub cuts_period : (net : Network) (stages counts shown : List ℕ) (old new : Standing) (period n : ℕ) (was now : Option (List ℕ)) → stages ≡ greatest_stages net (entry old.queues) → ((A : List (List ℕ)) → HasTaken net old A → HasTaken net new (A ++ counts ∷ []))
-    → ((state : State) → Stands net old state → Stands net new (step net stages (arrivals_of net counts) state)) → period ≡ new.period → shown ≡ stages
-    → Tells was now (GainsPrefix (period_line period counts shown new.queues ++ 10 ∷ [])) → TakesLine net (arrivals_line counts) n (Some Write) old new was now
-cuts_period net stages counts shown old new period n was now chosen takes closes is same told = record {
+pub cuts_period : (net : Network) (counts stages : List ℕ) (old new : Standing) (period n : ℕ) (was now : Option (List ℕ)) → stages ≡ greatest_stages net (entry old.queues) → ((A : List (List ℕ)) → HasTaken net old A → HasTaken net new (A ++ counts ∷ []))
+    → ((state : State) → Stands net old state → Stands net new (advance net counts state)) → period ≡ new.period → Tells was now (GainsPrefix (period_line period counts stages new.queues ++ 10 ∷ []))
+    → TakesLine net (arrivals_line counts) n (Some Write) old new was now
+cuts_period net counts stages old new period n was now chosen takes advances is told = record {
   permitted = λ A taken. (takes A taken).permitted;
-  cut = λ state stands. subst (λ (text : List ℕ). Tells was now (GainsPrefix text)) (put_line net stages counts shown old new period chosen closes is same state stands) told;
+  cut = λ state stands. subst (λ (text : List ℕ). Tells was now (GainsPrefix text)) (put_line net counts stages old new period chosen advances is state stands) told;
 }
-
--- and nothing is put of a period above a bucket
-pub exceeds_bucket : (net : Network) (counts : List ℕ) (old new : Standing) (n p l : ℕ) (was : Option (List ℕ)) → p ≡ old.period + 1 → ((A : List (List ℕ)) → HasTaken net old A → IsFirstAbove net A counts l) → TakesLine net (arrivals_line counts) n (Some (Above n p l)) old new was was
-exceeds_bucket net counts old new n p l was is above = (record { period = is; above = above }, refl, refl)
 
 put_end_is : (net : Network) (st : Standing) (period total_in total_out n : ℕ) → IsOn net st → period ≡ st.period → total_in ≡ st.total_in → total_out ≡ st.total_out → n ≡ total_in - total_out
     → st.total_in ≡ st.total_out + sum st.queues → (state : State) → Stands net st state → end_line_of period total_in total_out n ++ 10 ∷ [] ≡ text_of (end_line net state ∷ [])

@@ -1,11 +1,11 @@
 -- What is read of a stream, and what is written of its run.
-use Rattle.std.specs.Prelude.{◌≡◌, ◌^◌, ℕ, ◌+◌, List, [], ◌∷◌, ◌++◌, length, Option, Some, None}
+use Rattle.std.specs.Prelude.{◌≡◌, ◌≤◌, ◌^◌, ℕ, ◌+◌, List, [], ◌∷◌, ◌++◌, length, Option, Some, None}
 use Rattle.std.specs.List.{AllByRecursion}
 use Rattle.mp_edge.specs.Outside.{Tells, GainsPrefix}
-use Rattle.mp_model.specs.Network.{Network}
+use Rattle.mp_model.specs.Network.{Network, movement_numbers, entry}
 use Rattle.mp_model.specs.Arrivals.{IsPermitted}
-use Rattle.mp_model.specs.Step.{State}
-use Rattle.mp_model.specs.Run.{opening, advance, state_after}
+use Rattle.mp_model.specs.Step.{State, queue}
+use Rattle.mp_model.specs.Run.{opening, advance, state_after, run}
 use Rattle.mp_model.specs.Log.{text_of, line_after, end_line, period_lines, run_text}
 use Rattle.mp_model.specs.Stream.{LineKind, plain_kinds, arrivals_of_kinds}
 use Rattle.mp_model.specs.Stream.LineKind.{skipped_line, arrivals_line, long_line, bad_line, hear_line, decide_line}
@@ -97,6 +97,10 @@ EndsAs net head LineLimit whole left was now = HasTooMany net head whole left wa
 EndsAs net head (Long n) whole left was now = RefusedAt net head long_line n whole left was now
 EndsAs net head (Grammar n) whole left was now = RefusedAt net head bad_line n whole left was now
 EndsAs net head (Above n p l) whole left was now = RefusedAbove net head n p l whole left was now
+
+-- Each queue of each state of the run over these arrivals is at most its bound.
+abbrev pub StaysWithin : Network → List ℕ → List (List ℕ) → Type 0
+StaysWithin net bounds A = AllByRecursion (λ state. AllByRecursion (λ k. queue state k ≤ entry bounds k) (movement_numbers net)) (run net A)
 
 -- A period was closed with these counts, which are permitted after the arrivals before them, and its line was written.
 pub record Closed (net : Network) (counts : List ℕ) (old new : Standing) (was now : Option (List ℕ)) : Type 0 where

@@ -1,20 +1,21 @@
 //! A run over a stream.
-ghost use Rattle.std.specs.Prelude.{◌≡◌, ◌≤◌, ◌<◌, ◌+◌, ◌^◌, [], Some, All};
+ghost use Rattle.std.specs.Prelude.{◌≡◌, ◌≤◌, ◌<◌, ◌+◌, ◌^◌, ℕ, List, [], Some, All};
 ghost use Rattle.mp_edge.specs.Outside.{Rose};
-ghost use Rattle.mp_model.specs.Arrivals.{HasCounts};
+ghost use Rattle.mp_model.specs.Arrivals.{HasCounts, IsPermitted};
 ghost use Rattle.mp_model.specs.Run.{opening};
 ghost use Rattle.mp_model.specs.Stream.{plain_kind, without_events};
 ghost use Rattle.mp_model.specs.Stream.LineKind.{arrivals_line};
-ghost use Rattle.mp_step.specs.Standing.{IsOn, Stands};
+ghost use Rattle.mp_press.specs.Queues.{naturals};
+ghost use Rattle.mp_step.specs.Standing.{Stands};
 ghost use Rattle.mp_step.specs.Taken.{HasTaken};
-ghost use Rattle.mp_run.specs.Running.{EndsAs, TakesLine, Finishes};
+ghost use Rattle.mp_run.specs.Running.{EndsAs, StaysWithin, TakesLine, Finishes};
 
 use arrayvec::ArrayVec;
+use mp_drift::Session;
 use mp_edge::{Failed, Sink, Source};
 use mp_log::{StreamLine, put_end, put_period, read_line};
-use mp_net::{LinkNo, Net, StageNo};
-use mp_press::choose_all;
-use mp_step::{AboveAt, State};
+use mp_net::LinkNo;
+use mp_step::AboveAt;
 use mp_text::{LineCutter, LineStep};
 
 /// The greatest number of lines of a stream.
@@ -51,70 +52,65 @@ pub enum RunEnd {
 // Takes a line of arrivals, which has this number: closes a period with the greatest stages, and puts
 // its line. Nothing is put where the arrivals are above a bucket.
 fn close_period<Out: Sink>(
-    net: &Net,
-    state: &mut State,
+    session: &mut Session,
     line: u64,
     arrivals: &[u64],
-    stages: &mut ArrayVec<StageNo, 64>,
     out: &mut Out,
 ) -> Option<RunEnd>
-    requires on { IsOn net.now state.old }
-    requires counts { HasCounts net.now arrivals.now }
+    requires counts { HasCounts session.old.net arrivals.now }
     requires digits { All (λ a. a < 10 ^ 9) arrivals.now }
-    requires period { state.old.period < 2 ^ 48 }
-    ensures takes { TakesLine net.now (arrivals_line arrivals.now) line result state.old state.new (Out.held out.old) (Out.held out.new) }
-    ensures on { IsOn net.now state.new }
-    ensures period { state.new.period ≤ state.old.period + 1 }
+    requires period { session.old.at.period < 2 ^ 48 }
+    ensures takes { TakesLine session.old.net (arrivals_line arrivals.now) line result session.old.at session.new.at (Out.held out.old) (Out.held out.new) }
+    ensures same { session.new ≡ record session.old { at = session.new.at; stages = session.new.stages } }
+    ensures period { session.new.at.period ≤ session.old.at.period + 1 }
     ensures later { Out.faults out.old ≤ Out.faults out.new }
     ensures write { result ≡ Some RunEnd.Write → Rose (Out.faults out.old) (Out.faults out.new) }
 {
-    let _ = net.shares();
-    choose_all(net, state.queues(), stages);
-    match state.close(net, stages, arrivals) {
+    match session.period(arrivals) {
         Err(AboveAt { link }) => {
-            let period = state.period() + 1;
+            let period = session.state().period() + 1;
             Some(RunEnd::Above { line, period, link })
         }
-        Ok(()) => match put_period(out, state.period(), arrivals, stages, state.queues()) {
-            Ok(()) => None,
-            Err(Failed) => Some(RunEnd::Write),
-        },
+        Ok(()) => {
+            let state = session.state();
+            let stages = session.stages();
+            match put_period(out, state.period(), arrivals, stages, state.queues()) {
+                Ok(()) => None,
+                Err(Failed) => Some(RunEnd::Write),
+            }
+        }
     }
 }
 
 // Takes a line, which has this number.
 fn take_line<Out: Sink>(
-    net: &Net,
-    state: &mut State,
+    session: &mut Session,
     line: &[u8],
     number: u64,
     arrivals: &mut ArrayVec<u64, 128>,
-    stages: &mut ArrayVec<StageNo, 64>,
     out: &mut Out,
 ) -> Option<RunEnd>
-    requires on { IsOn net.now state.old }
-    requires period { state.old.period < 2 ^ 48 }
-    ensures takes { TakesLine net.now (without_events (plain_kind net.now line.now)) number result state.old state.new (Out.held out.old) (Out.held out.new) }
-    ensures on { IsOn net.now state.new }
-    ensures period { state.new.period ≤ state.old.period + 1 }
+    requires period { session.old.at.period < 2 ^ 48 }
+    ensures takes { TakesLine session.old.net (without_events (plain_kind session.old.net line.now)) number result session.old.at session.new.at (Out.held out.old) (Out.held out.new) }
+    ensures same { session.new ≡ record session.old { at = session.new.at; stages = session.new.stages } }
+    ensures period { session.new.at.period ≤ session.old.at.period + 1 }
     ensures later { Out.faults out.old ≤ Out.faults out.new }
     ensures write { result ≡ Some RunEnd.Write → Rose (Out.faults out.old) (Out.faults out.new) }
 {
-    match read_line(net, line, arrivals) {
+    match read_line(session.net(), line, arrivals) {
         StreamLine::Skipped => None,
         StreamLine::Bad => Some(RunEnd::Grammar { line: number }),
-        StreamLine::Arrivals => close_period(net, state, number, arrivals, stages, out),
+        StreamLine::Arrivals => close_period(session, number, arrivals, out),
     }
 }
 
 // Puts the end line.
-fn finish<Out: Sink>(net: &Net, state: &State, out: &mut Out) -> RunEnd
-    requires { IsOn net.now state.now }
-    ensures finishes { Finishes net.now result state.now (Out.held out.old) (Out.held out.new) }
+fn finish<Out: Sink>(session: &Session, out: &mut Out) -> RunEnd
+    ensures finishes { Finishes session.now.net result session.now.at (Out.held out.old) (Out.held out.new) }
     ensures later { Out.faults out.old ≤ Out.faults out.new }
     ensures write { result ≡ RunEnd.Write → Rose (Out.faults out.old) (Out.faults out.new) }
 {
-    let _ = net.movements();
+    let state = session.state();
     let queued = state.total_in() - state.total_out();
     match put_end(
         out,
@@ -128,54 +124,48 @@ fn finish<Out: Sink>(net: &Net, state: &State, out: &mut Out) -> RunEnd
     }
 }
 
-/// Reads the stream and runs the network on its arrivals: each line of arrivals closes a period with
+/// Reads the stream and runs the session on its arrivals: each line of arrivals closes a period with
 /// the stages of greatest pressure, and puts its line; at the end of the input comes the end line.
 ///
 /// The arrivals are held to the declared demand: the first period in which some link does not keep to
-/// its bucket ends the run at its line, which is not closed and puts nothing.
+/// its bucket ends the run at its line, which is not closed and puts nothing. So in every line of a
+/// period each queue is at most its bound.
 ///
-/// The state is a new one of this network. It takes no memory.
+/// The session is one that was just opened, and it keeps its network, slack and bounds. The run takes
+/// no memory.
 pub fn run_stream<In: Source, Out: Sink>(
-    net: &Net,
-    state: &mut State,
+    session: &mut Session,
     input: &mut In,
     out: &mut Out,
 ) -> RunEnd
-    requires on { IsOn net.now state.old }
-    requires start { Stands net.now state.old (opening net.now) }
-    requires taken { HasTaken net.now state.old [] }
-    ensures ends { EndsAs net.now [] result (In.left input.old) (In.left input.new) (Out.held out.old) (Out.held out.new) }
+    requires start { Stands session.old.net session.old.at (opening session.old.net) }
+    requires taken { HasTaken session.old.net session.old.at [] }
+    ensures ends { EndsAs session.old.net [] result (In.left input.old) (In.left input.new) (Out.held out.old) (Out.held out.new) }
+    ensures bounded { (A : List (List ℕ)) → IsPermitted session.old.net A → StaysWithin session.old.net (naturals session.old.bounds) A }
+    ensures same { session.new ≡ record session.old { at = session.new.at; stages = session.new.stages } }
     ensures in_later { In.faults input.old ≤ In.faults input.new }
     ensures out_later { Out.faults out.old ≤ Out.faults out.new }
     ensures read { result ≡ RunEnd.Read → Rose (In.faults input.old) (In.faults input.new) }
     ensures write { result ≡ RunEnd.Write → Rose (Out.faults out.old) (Out.faults out.new) }
 {
+    let _ = session.state();
     let mut cutter = LineCutter::<2049>::new();
     let mut arrivals = ArrayVec::new();
-    let mut stages = ArrayVec::new();
     for turn in 0..LINE_LIMIT {
         match cutter.next(input) {
             LineStep::Line => {
                 let line = cutter.line();
-                if let Some(end) = take_line(
-                    net,
-                    state,
-                    line,
-                    turn + 1,
-                    &mut arrivals,
-                    &mut stages,
-                    out,
-                ) {
+                if let Some(end) = take_line(session, line, turn + 1, &mut arrivals, out) {
                     return end;
                 }
             }
-            LineStep::End => return finish(net, state, out),
+            LineStep::End => return finish(session, out),
             LineStep::TooLong => return RunEnd::Long { line: turn + 1 },
             LineStep::Failed => return RunEnd::Read,
         }
     }
     match cutter.next(input) {
-        LineStep::End => finish(net, state, out),
+        LineStep::End => finish(session, out),
         LineStep::Failed => RunEnd::Read,
         LineStep::Line | LineStep::TooLong => RunEnd::LineLimit,
     }
