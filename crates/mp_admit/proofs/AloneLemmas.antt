@@ -10,10 +10,10 @@ use Rattle.mp_model.specs.Network.{Network, junction_at, own}
 use Rattle.mp_flow.specs.Systems.{Flows}
 use Rattle.mp_flow.specs.declared.network.Place.{Place}
 use Rattle.mp_flow.specs.declared.network.CalcFault.{CalcFault}
-use Rattle.mp_verdict.specs.Game.{Standing, slack_alone, alone, is_lower, taken, lower_of, tried, all_tried}
-use Rattle.mp_verdict.specs.Stated.{Stated, Reached, PassesAt, at_place, Gives}
+use Rattle.mp_verdict.specs.Game.{Standing, slack_alone, alone, lower_of, tried, all_tried}
+use Rattle.mp_verdict.specs.Stated.{Reached, PassesAt, at_place, Gives}
 use Rattle.mp_admit.specs.declared.standing.Standing.{Standing as Kept}
-use Rattle.mp_admit.specs.Standings.{standing_of, standings_of, lower_than, IfStands, StandsIn, AreValues}
+use Rattle.mp_admit.specs.Standings.{standings_of, lower_than, IfStands, StandsIn, AreValues}
 use Rattle.mp_admit.proofs.RowLemmas.{own_known, Lining, lining_start, lining_more, lining_end}
 use Rattle.mp_admit.proofs.FaultLemmas.{fault_kept}
 

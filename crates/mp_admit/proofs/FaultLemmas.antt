@@ -1,9 +1,9 @@
 -- Faults that are passed on.
-use Rattle.std.proofs.Common.{◌≡◌, ℕ, Option, Some, None, Result, Ok, Err, refl, ap, sym, ◌∙◌}
+use Rattle.std.proofs.Common.{◌≡◌, Option, Some, None, Err, refl, ap, ◌∙◌}
 use Rattle.mp_flow.specs.declared.network.Place.{Place}
 use Rattle.mp_flow.specs.declared.network.CalcFault.{CalcFault}
 use Rattle.mp_flow.specs.declared.network.CalcFault.TheVariants as Calculating
-use Rattle.mp_verdict.specs.Stated.{Stated, Reached, PassesAt, LimitAt, at_place, then, Gives}
+use Rattle.mp_verdict.specs.Stated.{Stated, PassesAt, at_place, then, Gives}
 
 -- a fault of a part at a place is one of the whole at the place
 pub fault_kept : {X X' Y Y' : Type 0} (seen : X → Y) (seen' : X' → Y') (place : Place) (fault : CalcFault) (o : Option Y) (p : Option Y') → (o ≡ None → p ≡ None) → Gives seen (Err fault) (at_place place o) → Gives seen' (Err fault) (at_place place p)

@@ -7,7 +7,7 @@ use Rattle.mp_flow.specs.Systems.{Flows}
 use Rattle.mp_flow.specs.declared.network.Place.{Place}
 use Rattle.mp_flow.specs.declared.network.CalcFault.{CalcFault}
 use Rattle.mp_verdict.specs.Game.{Standing, all_tried, played, played_from, turn_limit, after_junction, game}
-use Rattle.mp_verdict.specs.Stated.{Stated, Reached, at_place, then, passed, Gives}
+use Rattle.mp_verdict.specs.Stated.{Reached, at_place, then, passed, Gives}
 use Rattle.mp_admit.specs.declared.standing.Standing.{Standing as Kept}
 use Rattle.mp_admit.specs.Standings.{standing_of, standings_of, IfStands, StandsIn}
 use Rattle.mp_admit.proofs.FaultLemmas.{fault_then}

@@ -6,7 +6,7 @@ use Rattle.mp_num.specs.Passing.{each}
 use Rattle.mp_num.proofs.PassingLemmas.{before_one, each_at}
 use Rattle.mp_model.specs.Network.{numbers_to}
 use Rattle.mp_flow.specs.declared.network.Place.{Place}
-use Rattle.mp_verdict.specs.Stated.{Stated, Reached, PassesAt, at_place}
+use Rattle.mp_verdict.specs.Stated.{Reached, PassesAt, at_place}
 use Rattle.mp_admit.specs.Lists.{before}
 
 -- what was there before and is still to come

@@ -10,13 +10,13 @@ use Rattle.mp_flow.specs.Systems.{Flows, AreFlows}
 use Rattle.mp_flow.specs.declared.network.Place.{Place}
 use Rattle.mp_verdict.specs.Passing.{times, num}
 use Rattle.mp_verdict.specs.Rates.{period_unit, need_at, rate_row, rates_in, rates_at, Rates}
-use Rattle.mp_verdict.specs.Stated.{Stated, Gives, Reached, PassesAt, at_place}
+use Rattle.mp_verdict.specs.Stated.{Gives, Reached, PassesAt, at_place}
 use Rattle.mp_flow.specs.declared.network.CalcFault.{CalcFault}
 use Rattle.mp_num.specs.Row.{entry}
 use Rattle.mp_num.proofs.RowLemmas.{reduced_multiple}
 use Rattle.std.proofs.lemmas.Int.{ints}
 use Rattle.mp_admit.specs.Lists.{before}
-use Rattle.mp_admit.proofs.SlackLemmas.{Factors, factors, some_injective, product_sign}
+use Rattle.mp_admit.proofs.SlackLemmas.{factors, some_injective, product_sign}
 use Rattle.mp_admit.proofs.FaultLemmas.{fault_kept}
 
 pub length-reduced : (xs : List ℤ) → length (reduced xs) ≡ length xs

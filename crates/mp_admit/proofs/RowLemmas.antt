@@ -1,8 +1,8 @@
 -- The loops that make a junction's program.
 use Rattle.std.proofs.Common.{to_z-of_z, ◌≡◌, ◌==◌, ℕ, zero, suc, ◌+◌, ◌-◌, ◌*◌, ◌<◌, ◌≤◌, true, cond, List, [], ◌∷◌, ◌++◌, map, drop, take, get_or, length, slice_index_or, ℤ, pos, refl, ap, ap₂, sym, ◌∙◌, subst, arith}
-use Rattle.std.proofs.lemmas.List.{append-nil, length-append, length-map, take_all, take_more, append_assoc}
+use Rattle.std.proofs.lemmas.List.{append-nil, take_all, take_more, append_assoc}
 use Rattle.std.specs.List.{AllByRecursion}
-use Rattle.mp_model.specs.Network.{Network, movement_numbers, junction_at, own, stands_in, has, stage_at, flow_of}
+use Rattle.mp_model.specs.Network.{Network, movement_numbers, junction_at, own, stands_in, has, stage_at}
 use Rattle.mp_model.specs.Certificate.{int_entry}
 use Rattle.mp_laws.proofs.Lists.{all_in, filter_sub}
 use Rattle.mp_verdict.specs.Program.{stage_row, stage_rows}

@@ -1,17 +1,15 @@
 -- The values of a junction over all movements, and what they bring to the links.
 use Rattle.std.proofs.Common.{to_z-of_z, ◌≡◌, ◌≢◌, ◌==◌, ℕ, suc, ◌+◌, ◌-◌, ◌<◌, ◌≤◌, Bool, true, false, cond, List, [], ◌∷◌, ◌++◌, map, drop, get_or, length, ℤ, pos, Option, Some, None, IfSome, option_and_then, refl, ap, sym, ◌∙◌, subst, arith}
-use Rattle.std.specs.List.{range_with_len}
 use Rattle.std.proofs.lemmas.Bool.{eqb-true, eqb-false}
 use Rattle.std.proofs.lemmas.List.{drop_all, drop_more}
 use Rattle.mp_num.specs.Passing.{run}
-use Rattle.mp_model.specs.Network.{Network, movement_numbers, link_numbers, junction_at, own, out_of, share_of, to_of, has}
+use Rattle.mp_model.specs.Network.{Network, movement_numbers, link_numbers, out_of, share_of, to_of, has}
 use Rattle.mp_model.specs.NetworkRules.{IsNetwork}
 use Rattle.mp_model.specs.Certificate.{int_entry}
 use Rattle.mp_laws.proofs.Lists.{at_in}
 use Rattle.mp_flow.proofs.RowLoopLemmas.{Lining, lining_start, lining_more, lining_end, movement_out}
 use Rattle.mp_verdict.specs.Passing.{times, plus, num, added, sum_of}
-use Rattle.mp_verdict.specs.Game.{Standing}
-use Rattle.mp_verdict.specs.Vector.{value_beside, spread, link_value}
+use Rattle.mp_verdict.specs.Vector.{value_beside, link_value}
 use Rattle.mp_admit.proofs.TermLemmas.{among, has_numbers}
 
 -- ---- the value beside a movement

@@ -4,7 +4,7 @@ use Rattle.std.specs.List.{AllByRecursion}
 use Rattle.std.proofs.lemmas.Int.{ints}
 use Rattle.std.proofs.lemmas.List.{drop_all, drop_more}
 use Rattle.mp_model.specs.Sums.{int_sum_by}
-use Rattle.mp_model.specs.Network.{Network, junction_at, own, has, stands_in, movement_numbers}
+use Rattle.mp_model.specs.Network.{Network, junction_at, own, stands_in, movement_numbers}
 use Rattle.mp_model.specs.NetworkRules.{IsNetwork}
 use Rattle.mp_laws.proofs.Lists.{each_in, filter_sub}
 use Rattle.mp_flow.specs.Systems.{Flows, AreFlows}
@@ -13,7 +13,7 @@ use Rattle.mp_verdict.specs.Rates.{unit_need}
 use Rattle.mp_admit.specs.Standings.{AreValues, AskSome}
 use Rattle.mp_admit.proofs.TermLemmas.{among}
 use Rattle.mp_admit.proofs.RowLemmas.{own_known}
-use Rattle.mp_admit.proofs.SlackLemmas.{Factors, factors, Summands, summands, some_injective, product_least, unit_positive, over_positive}
+use Rattle.mp_admit.proofs.SlackLemmas.{factors, summands, some_injective, product_least, unit_positive, over_positive}
 
 -- a sum so far
 pub record Summing (f : ℕ → ℤ → Option ℤ) (ks : List ℕ) (zs : List ℤ) (i : ℕ) (sum : ℤ) : Type 0 where

@@ -3,7 +3,6 @@ use Rattle.std.proofs.Common.{to_z-of_z, ◌≡◌, ◌≤◌, ℕ, ◌+◌, ◌
 use Rattle.mp_model.specs.Network.{Network, movement_numbers, link_numbers, numbers_to, has, from_of}
 use Rattle.mp_model.specs.NetworkRules.{IsNetwork}
 use Rattle.mp_laws.proofs.Lists.{at_in, all_in, at_range, in_numbers}
-use Rattle.mp_flow.specs.Systems.{Flows, AreFlows}
 
 pub has_numbers : (n k : ℕ) → (1 ≤ k) × (k ≤ n) → has (numbers_to n) k ≡ true
 has_numbers n k h = at_range (λ k. has (numbers_to n) k ≡ true) 1 n k h.0 (omega arith) (all_in (numbers_to n))

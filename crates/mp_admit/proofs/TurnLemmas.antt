@@ -12,16 +12,15 @@ use Rattle.mp_model.specs.Sums.{int_sum_by}
 use Rattle.mp_model.specs.Network.{Network, junction_at, own}
 use Rattle.mp_flow.specs.Systems.{Flows}
 use Rattle.mp_flow.specs.declared.network.Place.{Place}
-use Rattle.mp_flow.specs.declared.network.Place.TheVariants as place
 use Rattle.mp_flow.specs.declared.network.CalcFault.{CalcFault}
 use Rattle.mp_simplex.specs.declared.Lp.{Lp}
 use Rattle.mp_simplex.specs.declared.Optimum.{Optimum}
 use Rattle.mp_simplex.specs.Meeting.{IsOptimum}
 use Rattle.mp_simplex.specs.Optimal.{product}
 use Rattle.mp_simplex.specs.Outcome.{maximised}
-use Rattle.mp_verdict.specs.Rates.{Rates, rates_at, rates_in}
+use Rattle.mp_verdict.specs.Rates.{Rates, rates_at}
 use Rattle.mp_verdict.specs.Program.{program, optimum_at}
-use Rattle.mp_verdict.specs.Game.{Standing, Turn, Carried, Lowered, is_over, slack_of, spent, lowered, by_value, turn}
+use Rattle.mp_verdict.specs.Game.{Turn, Carried, Lowered, is_over, slack_of, spent, lowered, by_value, turn}
 use Rattle.mp_verdict.specs.Stated.{Stated, Reached, PassesAt, LimitAt, at_place, then, Gives}
 use Rattle.mp_admit.specs.Standings.{AreValues, AskSome}
 use Rattle.mp_admit.proofs.FaultLemmas.{fault_then}

@@ -11,16 +11,14 @@ use Rattle.mp_model.specs.NetworkRules.{IsNetwork}
 use Rattle.mp_flow.specs.Systems.{Worths, stated_worths}
 use Rattle.mp_flow.specs.Calculating.{worths_of}
 use Rattle.mp_flow.specs.Calculating as flow
-use Rattle.mp_flow.specs.declared.network.Flow.{Flow}
 use Rattle.mp_flow.specs.declared.network.Place.{Place}
 use Rattle.mp_flow.specs.declared.network.CalcFault.{CalcFault}
-use Rattle.mp_flow.specs.declared.network.CalcFault.TheVariants as Calculating
 use Rattle.mp_verdict.specs.Game.{Standing}
 use Rattle.mp_verdict.specs.Vector.{value_beside, spread, link_values, vector_entry, vector_by, vector_of}
-use Rattle.mp_verdict.specs.Stated.{Stated, Reached, PassesAt, at_place, Gives}
+use Rattle.mp_verdict.specs.Stated.{Reached, at_place, Gives}
 use Rattle.mp_verdict.specs.Laws.{IsNatural}
 use Rattle.mp_verdict.proofs.Handing.{brought_shape}
-use Rattle.mp_verdict.proofs.VectorOf.{IsVectorOf, vector_is}
+use Rattle.mp_verdict.proofs.VectorOf.{vector_is}
 use Rattle.mp_admit.specs.declared.standing.Standing.{Standing as Kept}
 use Rattle.mp_admit.specs.Standings.{standing_of, StandsIn}
 use Rattle.mp_admit.specs.Spreads.{vector_from, BringSigned}

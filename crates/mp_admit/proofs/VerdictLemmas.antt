@@ -9,22 +9,21 @@ use Rattle.mp_model.specs.Certificate.{Cert}
 use Rattle.mp_flow.specs.Systems.{Flows, AreFlows, stated_flows}
 use Rattle.mp_flow.specs.Calculating as flow
 use Rattle.mp_flow.specs.Calculating.{flows_of}
-use Rattle.mp_flow.specs.declared.network.FlowPair.{FlowPair}
 use Rattle.mp_flow.specs.declared.network.Place.{Place}
 use Rattle.mp_flow.specs.declared.network.CalcFault.{CalcFault}
 use Rattle.mp_verdict.specs.Game.{Standing, game}
 use Rattle.mp_verdict.specs.Vector.{vector_of}
 use Rattle.mp_verdict.specs.Mixes.{certificate_at}
 use Rattle.mp_verdict.specs.Verdict.{Verdict, Admitted, Critical, Overloaded, judged, verdict_after, verdict}
-use Rattle.mp_verdict.specs.Stated.{Stated, Reached, PassesAt, at_place, then, Gives}
+use Rattle.mp_verdict.specs.Stated.{Reached, PassesAt, at_place, then, Gives}
 use Rattle.mp_verdict.specs.Laws.{Holds, IsExact}
 use Rattle.mp_verdict.proofs.VerdictProof as law
 use Rattle.mp_verdict.proofs.StandingLaw.{no_motion}
 use Rattle.mp_admit.specs.declared.standing.Standing.{Standing as Kept}
 use Rattle.mp_admit.specs.declared.verdict.Verdict.{Verdict as KeptVerdict}
-use Rattle.mp_admit.specs.Standings.{standing_of, standings_of, IfStands, StandsIn}
+use Rattle.mp_admit.specs.Standings.{standing_of, standings_of}
 use Rattle.mp_admit.specs.Verdicts.{verdict_of}
-use Rattle.mp_admit.proofs.FaultLemmas.{fault_then, fault_same}
+use Rattle.mp_admit.proofs.FaultLemmas.{fault_then}
 
 -- ---- the sign of the slack
 pub judged_tight : (net : Network) (flows : Flows) (slack : Fraction) (vector : List ℤ) (num : ℤ) → num ≡ pos 0 → judged net flows slack vector num ≡ Reached (Critical vector)

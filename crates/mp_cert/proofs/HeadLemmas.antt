@@ -1,12 +1,12 @@
 -- The lines of a certificate before its mixes, and those of a vector.
-use Rattle.std.proofs.Common.{◌≡◌, ℕ, List, [], ◌∷◌, ◌++◌, ℤ, pos, length, drop, map, get_or, Ok, Result, refl, sym, ◌∙◌, ap, subst, arith}
+use Rattle.std.proofs.Common.{◌≡◌, ℕ, List, [], ◌∷◌, ◌++◌, ℤ, length, map, Ok, refl, ◌∙◌, ap, subst}
 use Rattle.std.specs.Prelude.{codes}
-use Rattle.std.proofs.lemmas.List.{nil_from_length, append-nil}
+use Rattle.std.proofs.lemmas.List.{nil_from_length}
 use Rattle.mp_model.specs.Network.{Network}
 use Rattle.mp_cert.specs.declared.text_fault.TextFault.{TextFault}
 use Rattle.mp_cert.specs.declared.types.Mix.{Mix}
 use Rattle.mp_cert.specs.TextFaults.{IsFaultOf}
-use Rattle.mp_cert.specs.TextMeaning.{Form, made, mix_forms, mix_of_row, cert_forms, cert_of_rows, cert_meaning, vector_forms, vector_meaning, rows_of, row_at}
+use Rattle.mp_cert.specs.TextMeaning.{Form, made, mix_forms, mix_of_row, cert_forms, cert_of_rows, cert_meaning, vector_forms, vector_meaning, row_at}
 use Rattle.mp_cert.specs.TextReading.{rows_ahead, ReadsRow, ReadsRows, RefusesAhead, mix_row, head_rows}
 use Rattle.mp_cert.specs.Views.{mix_of}
 use Rattle.mp_cert.proofs.RowLemmas.{rows_start, rows_more, rows_last, rows_fail, rows_end, fault_made}

@@ -1,5 +1,5 @@
 -- The loop that compares the parts of each junction with its stages.
-use Rattle.std.proofs.Common.{◌≡◌, ℕ, zero, suc, ◌+◌, ◌-◌, ◌<◌, ◌≤◌, Bool, true, false, nat_eq, List, [], ◌∷◌, ◌++◌, length, IsTrue, ◌↔◌, arith, refl, ap, sym, ◌∙◌, subst}
+use Rattle.std.proofs.Common.{◌≡◌, ℕ, zero, suc, ◌+◌, ◌<◌, ◌≤◌, true, false, nat_eq, List, [], ◌∷◌, ◌++◌, length, IsTrue, ◌↔◌, arith, refl, ap, sym, ◌∙◌, subst}
 use Rattle.std.specs.List.{AllByRecursion, range_with_len}
 use Rattle.mp_model.specs.Network.{Network, junction_at, junction_numbers, numbers_to}
 use Rattle.mp_model.specs.Certificate.{Cert, mix_at}

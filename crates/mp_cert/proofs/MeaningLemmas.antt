@@ -1,14 +1,13 @@
 -- A certificate or a vector that is read has the network's lengths, and no number below 0.
-use Rattle.std.proofs.Common.{◌≡◌, ◌<◌, ◌≤◌, ℕ, suc, zero, ◌+◌, ◌-◌, List, [], ◌∷◌, Bool, true, false, cond, ℤ, pos, ◌≤ℤ◌, length, drop, map, get_or, Option, Some, None, Ok, Err, Result, refl, sym, ◌∙◌, ap, subst, arith}
-use Rattle.std.specs.Prelude.{codes}
+use Rattle.std.proofs.Common.{◌≡◌, ◌<◌, ℕ, suc, zero, ◌+◌, ◌-◌, List, [], ◌∷◌, Bool, true, false, cond, ℤ, pos, ◌≤ℤ◌, length, map, get_or, Option, Some, None, Ok, Err, Result, refl, ap, subst, arith}
 use Rattle.std.specs.List.{AllByRecursion}
 use Rattle.std.specs.Option.{option_and_then}
 use Rattle.std.proofs.lemmas.List.Elements.{All-from_recursion, All-weaker}
 use Rattle.mp_laws.proofs.Lists.{each_in, in_numbers}
 use Rattle.mp_model.specs.Certificate.{Cert, Mix, HasLengths, mix_at, no_mix, int_entry}
-use Rattle.mp_model.specs.Network.{Network, Junction, junction_at, no_junction, numbers_to, has}
+use Rattle.mp_model.specs.Network.{Network, Junction, junction_at, no_junction, numbers_to}
 use Rattle.mp_model.specs.Stream.{lines_of}
-use Rattle.mp_cert.specs.TextMeaning.{Form, row_of, behind, spaced_numbers, of_count, is_passed_over, made, row_before, rows_of, mix_form, mix_forms, mix_of_row, cert_forms, cert_of_rows, cert_meaning, vector_forms, vector_meaning, row_at, AreNatural, IsNatural}
+use Rattle.mp_cert.specs.TextMeaning.{Form, row_of, behind, spaced_numbers, of_count, is_passed_over, made, row_before, rows_of, mix_forms, mix_of_row, cert_forms, cert_of_rows, cert_meaning, vector_forms, vector_meaning, row_at, AreNatural, IsNatural}
 use Rattle.mp_cert.proofs.FieldLemmas.{read_count, read_natural, EachNatural}
 
 same_Ok : {X : Type 0} (x y : X) → ◌≡◌ {A = Result X ℕ} (Ok x) (Ok y) → x ≡ y

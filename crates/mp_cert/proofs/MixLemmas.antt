@@ -1,11 +1,11 @@
 -- The lines of mixes, one junction at a time.
-use Rattle.std.proofs.Common.{◌≡◌, ◌<◌, ◌≤◌, ℕ, ◌+◌, ◌-◌, List, [], ◌∷◌, ◌++◌, ℤ, length, drop, map, get_or, refl, sym, ◌∙◌, ap, arith}
+use Rattle.std.proofs.Common.{◌≡◌, ◌<◌, ◌≤◌, ℕ, ◌+◌, ◌-◌, List, [], ◌∷◌, ◌++◌, length, drop, map, get_or, sym, ◌∙◌, ap, arith}
 use Rattle.std.proofs.lemmas.List.{drop_more, drop_all, map_push}
 use Rattle.mp_model.specs.Network.{Network, Junction, junction_at, no_junction}
 use Rattle.mp_cert.specs.declared.text_fault.TextFault.{TextFault}
 use Rattle.mp_cert.specs.declared.types.Mix.{Mix}
 use Rattle.mp_cert.specs.TextFaults.{IsFaultOf}
-use Rattle.mp_cert.specs.TextMeaning.{Form, made, mix_form, mix_forms}
+use Rattle.mp_cert.specs.TextMeaning.{made, mix_form, mix_forms}
 use Rattle.mp_cert.specs.TextReading.{rows_ahead, ReadsRow, ReadsRows, RefusesAhead, mix_row}
 use Rattle.mp_cert.proofs.RowLemmas.{rows_start, rows_more, rows_fail}
 

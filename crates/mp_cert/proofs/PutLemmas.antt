@@ -1,5 +1,5 @@
 -- What was put, one piece after another.
-use Rattle.std.proofs.Common.{◌≡◌, ◌<◌, ◌≤◌, ℕ, ◌+◌, List, [], ◌∷◌, ◌++◌, length, take, drop, map, get_or, Option, Some, None, Ok, Err, Result, refl, sym, ◌∙◌, ap, subst, arith, add-zero}
+use Rattle.std.proofs.Common.{◌≡◌, ◌<◌, ℕ, ◌+◌, List, [], ◌∷◌, ◌++◌, length, take, drop, map, get_or, Option, Ok, Err, Result, refl, sym, ◌∙◌, ap, subst, arith, add-zero}
 use Rattle.std.specs.List.{flat_map}
 use Rattle.std.proofs.lemmas.List.{append_assoc, append-nil, take-append-drop, drop_more, take_more, length-take-le, length-map, take-map, get_or-map}
 use Rattle.std.proofs.lemmas.Grind.{flat_map-append}
@@ -9,7 +9,7 @@ use Rattle.mp_cert.specs.declared.types.Mix as code
 use Rattle.mp_cert.specs.Views.{mix_of}
 use Rattle.mp_cert.specs.Texts.{line_with, mix_words, mix_numbers, mix_lines}
 use Rattle.mp_edge.specs.Outside.{Tells, Puts, IsPrefix, GainsPrefix}
-use Rattle.mp_edge.proofs.Told.{Tells-weaker, Tells-then, Tells-same}
+use Rattle.mp_edge.proofs.Told.{Tells-then, Tells-same}
 use Rattle.mp_edge.proofs.Gains.{GainsPrefix-longer, GainsPrefix-then}
 
 -- these bytes were appended to what was held

@@ -1,5 +1,5 @@
 -- The rows of the lines ahead, where the first line is known.
-use Rattle.std.proofs.Common.{◌≡◌, ◌≢◌, ◌<◌, ◌≤◌, ℕ, ◌+◌, ◌-◌, List, [], ◌∷◌, ◌++◌, Bool, true, false, cond, ℤ, pos, length, get_or, refl, sym, ◌∙◌, ap, subst, Some, None, arith, Result, Ok, Err}
+use Rattle.std.proofs.Common.{◌≡◌, ◌≤◌, ℕ, ◌+◌, ◌-◌, List, [], ◌∷◌, ◌++◌, true, false, cond, ℤ, pos, length, get_or, refl, sym, ◌∙◌, ap, Some, arith, Result, Ok, Err}
 use Rattle.std.proofs.lemmas.List.{append_assoc, append-nil}
 use Rattle.mp_model.specs.Stream.{lines_of}
 use Rattle.mp_cert.specs.declared.text_fault.TextFault.{TextFault}

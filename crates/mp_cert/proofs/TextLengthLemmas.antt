@@ -1,13 +1,13 @@
 -- How long texts are.
-use Rattle.std.proofs.Common.{◌≡◌, ◌<◌, ◌≤◌, ℕ, zero, suc, ◌+◌, ◌*◌, ◌^◌, List, [], ◌∷◌, ◌++◌, ℤ, length, get_or, refl, sym, ◌∙◌, ap, subst, arith}
+use Rattle.std.proofs.Common.{◌≡◌, ◌<◌, ◌≤◌, ℕ, suc, ◌+◌, ◌*◌, List, [], ◌∷◌, ◌++◌, ℤ, length, get_or, arith}
 use Rattle.std.specs.Prelude.{codes, decimal}
 use Rattle.std.specs.Fmt.{signed_decimal}
 use Rattle.std.specs.List.{flat_map, AllByRecursion}
 use Rattle.std.proofs.lemmas.Fmt.{length-decimal-le_wide}
 use Rattle.std.proofs.lemmas.List.{length-append}
-use Rattle.mp_model.specs.Certificate.{Cert, Mix, HasLengths, mix_at, no_mix}
+use Rattle.mp_model.specs.Certificate.{Cert, Mix, HasLengths, no_mix}
 use Rattle.mp_model.specs.Log.{text_of}
-use Rattle.mp_model.specs.Network.{Network, Junction, junction_at, no_junction}
+use Rattle.mp_model.specs.Network.{Network, Junction, no_junction}
 use Rattle.mp_model.specs.NetworkRules.{IsInRange}
 use Rattle.mp_cert.specs.Texts.{line_with, mix_words, mix_numbers, mix_lines, cert_text, vector_text}
 use Rattle.mp_cert.specs.TextLaws.{IsNumber, IsWritable}

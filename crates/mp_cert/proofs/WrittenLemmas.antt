@@ -1,9 +1,8 @@
 -- What is written is read back: fields, lines, and whole texts.
-use Rattle.std.proofs.Common.{◌≡◌, ◌≢◌, ◌<◌, ◌≤◌, ℕ, zero, suc, ◌+◌, ◌-◌, ◌^◌, List, [], ◌∷◌, ◌++◌, Bool, true, false, cond, ◌&&◌, nat_le, ℤ, pos, length, map, get_or, Option, Some, None, Ok, Err, Result, refl, sym, ◌∙◌, ap, ap₂, subst, arith}
+use Rattle.std.proofs.Common.{◌≡◌, ◌<◌, ◌≤◌, ℕ, suc, ◌+◌, ◌^◌, List, [], ◌∷◌, ◌++◌, Bool, true, false, cond, ◌&&◌, nat_le, ℤ, length, map, get_or, Some, Ok, refl, ◌∙◌, ap, ap₂, subst, arith}
 use Rattle.std.specs.Prelude.{◌==◌, codes, decimal}
 use Rattle.std.specs.Fmt.{signed_decimal}
 use Rattle.std.specs.List.{list_all, flat_map, slice_split, AllByRecursion, All}
-use Rattle.std.specs.Option.{option_and_then}
 use Rattle.std.proofs.lemmas.Bool.Decides.{nat_tests}
 use Rattle.std.proofs.lemmas.List.{append_assoc, append-nil}
 use Rattle.std.proofs.lemmas.List.Elements.{All-from_get_or}
@@ -14,13 +13,12 @@ use Rattle.mp_laws.proofs.Lists.{at_number, back_one}
 use Rattle.mp_model.specs.Certificate.{Cert, Mix, HasLengths, mix_at, no_mix}
 use Rattle.mp_model.specs.Log.{text_of}
 use Rattle.mp_model.specs.Network.{Network, Junction, junction_at, no_junction}
-use Rattle.mp_model.specs.Stream.{is_digit, raw_lines, lines_of, without_return}
-use Rattle.mp_text.specs.Bigs.{big_of}
+use Rattle.mp_model.specs.Stream.{is_digit, lines_of, without_return}
 use Rattle.mp_text.specs.Cutting.{is_line_feed}
 use Rattle.mp_text.proofs.RawLines.{ended_line}
 use Rattle.mp_cert.specs.Texts.{line_with, mix_words, mix_numbers, mix_lines, cert_lines, cert_text, vector_lines, vector_text}
 use Rattle.mp_cert.specs.TextLaws.{IsNumber, IsWritable}
-use Rattle.mp_cert.specs.TextMeaning.{Form, onto, numbers_of, spaced_numbers, of_count, row_of, is_passed_over, made, row_before, rows_of, mix_form, mix_forms, mix_of_row, cert_forms, cert_of_rows, cert_meaning, vector_forms, vector_meaning, row_at}
+use Rattle.mp_cert.specs.TextMeaning.{Form, onto, numbers_of, spaced_numbers, of_count, row_of, is_passed_over, made, row_before, rows_of, mix_forms, mix_of_row, cert_forms, cert_of_rows, cert_meaning, vector_forms, vector_meaning, row_at}
 use Rattle.mp_cert.proofs.DecimalLemmas.{big_written, written_digits, decimal_digits}
 use Rattle.mp_cert.proofs.FieldLemmas.{behind_words, row_behind, of_count_same}
 

@@ -1,5 +1,5 @@
 -- How the lines ahead are read, one after another.
-use Rattle.std.specs.Prelude.{◌≡◌, ◌+◌, ◌-◌, ◌<◌, ◌≤◌, ◌^◌, false, ℕ, ℤ, List, [], ◌∷◌, ◌++◌, length, Result, Ok}
+use Rattle.std.specs.Prelude.{◌≡◌, ◌+◌, ◌-◌, ◌<◌, ◌≤◌, ◌^◌, false, ℕ, ℤ, List, [], ◌∷◌, ◌++◌, length, Result}
 use Rattle.mp_model.specs.Stream.{lines_of}
 use Rattle.mp_cert.specs.declared.types.Mix.{Mix}
 use Rattle.mp_cert.specs.Texts.{mix_numbers}

@@ -4,3 +4,4 @@ pub mod FedLemmas
 pub mod KindLemmas
 pub mod LengthLemmas
 pub mod HeaderLemmas
+pub mod PutLemmas

@@ -3,7 +3,7 @@ ghost use Rattle.std.specs.Prelude.{◌≡◌, ◌≤◌, ◌<◌, ◌≤ℤ◌,
 ghost use Rattle.mp_edge.specs.Outside.{Tells, Puts, HasCause};
 ghost use Rattle.mp_text.specs.Buffered.{MOST_BYTES};
 ghost use Rattle.mp_model.specs.Network.{entry, numbers_to, movement_at};
-ghost use Rattle.mp_model.specs.Log.{first_line, slack_line, bound_line, header_lines};
+ghost use Rattle.mp_model.specs.Log.{first_line, slack_line, bound_line, header_lines, text_of};
 ghost use Rattle.mp_log.specs.Heading.{header_line, excess, denominator, unsigned};
 
 use crate::line::{push_number, push_text};
@@ -120,4 +120,24 @@ pub fn put_header_line<K: Sink>(
     push_header(&mut line, net, slack, bound, i);
     push_text(&mut line, b"\n");
     out.put(line.bytes())
+}
+
+/// Puts the whole header, line by line: the first line, the slack and the bounds.
+/// There is one bound per movement, in vehicles. `Failed` comes only with a fault of the sink, and then a prefix of the header was appended.
+pub fn put_header<K: Sink>(
+    out: &mut K,
+    net: &Net,
+    slack: &Frac,
+    bound: &[i128],
+) -> Result<(), Failed>
+    requires bounds { length bound.now ≡ length net.now.movements }
+    requires above { pos 0 ≤ℤ slack.now.num }
+    requires counts { All (λ b. pos 0 ≤ℤ b) bound.now }
+    ensures bytes { Tells (K.held out.old) (K.held out.new) (Puts result (text_of (header_lines net.now (excess slack.now) (denominator slack.now) (unsigned bound.now)))) }
+    ensures cause { HasCause (K.faults out.old) (K.faults out.new) result }
+{
+    for i in 0..header_lines(net) {
+        put_header_line(out, net, slack, bound, i + 1)?;
+    }
+    Ok(())
 }

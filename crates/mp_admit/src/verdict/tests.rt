@@ -99,38 +99,99 @@ fn roundabout(alloc: Global) -> Result<Net, Fail> {
 }
 
 // Each link but the last goes on to the next with a great share, and the last to the link `after`, or out at 0.
-fn ring(alloc: Global, count: u16, after: u16) -> Result<Net, Fail> {
+fn ring(alloc: Global, count: u8, after: u16) -> Result<Net, Fail> {
     let mut links = Vec::new(alloc);
     let mut movements = Vec::new(alloc);
-    let mut stages: Vec<[u16; 2]> = Vec::new(alloc);
-    for i in 0..count {
+    let mut junctions = Vec::new(alloc);
+    for i in 0..u16::from(count) {
         links.push(if i == 0 { (1, 1) } else { (0, 0) })?;
-        let next = if i + 1 == count { after } else { i + 2 };
+        let next = if i + 1 == u16::from(count) {
+            after
+        } else {
+            i + 2
+        };
         movements.push((i + 1, next, 999, 1000))?;
         movements.push((i + 1, 0, 1, 1000))?;
-        stages.push([2 * i + 1, 2 * i + 2])?;
+        let mut stages = Vec::new(alloc);
+        stages.push(Vec::from_slice(alloc, &[2 * i + 1, 2 * i + 2])?)?;
+        junctions.push(JunctionPart {
+            name: name(format!(in alloc; "j{i}")?.as_str())?,
+            stages,
+        })?;
     }
-    let mut parts = NetParts {
+    let parts = NetParts {
         shares: 1000,
         per: 1,
         links: self::links(alloc, &links)?,
         movements: self::movements(alloc, &movements)?,
-        junctions: Vec::new(alloc),
+        junctions,
     };
-    for stage in &stages {
-        let mut made = Vec::new(alloc);
-        made.push(Vec::from_slice(alloc, stage)?)?;
-        parts.junctions.push(JunctionPart {
-            name: name("j")?,
-            stages: made,
-        })?;
-    }
-    let mut i = 0u16;
-    for junction in &mut parts.junctions {
-        junction.name = name(format!(in alloc; "j{i}")?.as_str())?;
-        i += 1;
-    }
     Ok(build(alloc, parts)?)
+}
+
+// Three junctions in a row, with rates as hourly counts.
+fn corridor(alloc: Global) -> Result<Net, Fail> {
+    network(
+        alloc,
+        (100, 40),
+        &[
+            (30, 600),
+            (0, 0),
+            (0, 0),
+            (30, 500),
+            (0, 0),
+            (0, 0),
+            (10, 200),
+            (10, 200),
+            (10, 200),
+            (10, 200),
+            (10, 200),
+            (10, 200),
+        ],
+        &[
+            (1, 2, 70, 90),
+            (1, 0, 10, 40),
+            (1, 0, 20, 40),
+            (2, 3, 70, 90),
+            (2, 0, 10, 40),
+            (2, 0, 20, 40),
+            (3, 0, 70, 90),
+            (3, 0, 10, 40),
+            (3, 0, 20, 40),
+            (4, 5, 70, 90),
+            (4, 0, 10, 40),
+            (4, 0, 20, 40),
+            (5, 6, 70, 90),
+            (5, 0, 10, 40),
+            (5, 0, 20, 40),
+            (6, 0, 70, 90),
+            (6, 0, 10, 40),
+            (6, 0, 20, 40),
+            (7, 0, 40, 45),
+            (7, 2, 30, 40),
+            (7, 0, 30, 40),
+            (8, 0, 40, 45),
+            (8, 3, 30, 40),
+            (8, 6, 30, 40),
+            (9, 0, 40, 45),
+            (9, 0, 30, 40),
+            (9, 5, 30, 40),
+            (10, 0, 40, 45),
+            (10, 0, 30, 40),
+            (10, 2, 30, 40),
+            (11, 0, 40, 45),
+            (11, 6, 30, 40),
+            (11, 3, 30, 40),
+            (12, 0, 40, 45),
+            (12, 5, 30, 40),
+            (12, 0, 30, 40),
+        ],
+        &[
+            &[&[1, 3, 16, 18], &[2, 17], &[19, 21, 28, 30], &[20, 29]],
+            &[&[4, 6, 13, 15], &[5, 14], &[22, 24, 31, 33], &[23, 32]],
+            &[&[7, 9, 10, 12], &[8, 11], &[25, 27, 34, 36], &[26, 35]],
+        ],
+    )
 }
 
 // The verdict as text, with the certificate's numbers in the order of its lines.
@@ -183,6 +244,10 @@ fn tells_verdicts(rt: HostRuntime) -> Result<(), Fail> {
             "d 4 e 1 h [3, 4] mix 1 [3] mix 1 [4] against [1, 1] slack 1/4",
         ),
         (
+            tandem(alloc, 4, 3)?,
+            "d 8 e 3 h [5, 8] mix 1 [5] mix 1 [8] against [1, 1] slack 3/8",
+        ),
+        (
             roundabout(alloc)?,
             "d 8 e 7 h [16, 16] mix 1 [8] against [1, 0] slack 7/8",
         ),
@@ -203,6 +268,19 @@ fn passes_at_its_place(rt: HostRuntime) -> Result<(), Fail> {
             Err(fault) => assert_eq!(rt; fault, CalcFault::Overflow(place)),
             Ok(_) => assert!(rt; false),
         }
+    }
+    Ok(())
+}
+
+#[test]
+fn certifies_a_corridor(rt: HostRuntime) -> Result<(), Fail> {
+    let alloc = rt.alloc();
+    match admit(alloc, &corridor(alloc)?)? {
+        Verdict::Admitted { slack, .. } => {
+            assert_eq!(rt; slack.num(), 57387);
+            assert_eq!(rt; slack.den(), 9974);
+        }
+        _ => assert!(rt; false),
     }
     Ok(())
 }

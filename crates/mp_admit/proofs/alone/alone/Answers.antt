@@ -1,5 +1,4 @@
-use Rattle.std.proofs.Common.{◌≡◌, ◌==◌, ◌≤◌, cond, map, length, pos, ◌∙◌, arith, ap}
-use Rattle.mp_model.specs.Network.{junction_at, own}
+use Rattle.std.proofs.Common.{◌==◌, ◌≤◌, cond, map, length, pos, ◌∙◌, arith, ap}
 use Rattle.mp_admit.proofs.RowLemmas.{lining_end}
 use Rattle.mp_admit.proofs.AloneLemmas.{alone_values}
 use Rattle.mp_admit.proofs.alone.alone.Goals as goal

@@ -1,7 +1,7 @@
-use Rattle.std.proofs.Common.{Option, refl}
+use Rattle.std.proofs.Common.{Option}
 use Rattle.mp_admit.specs.declared.standing.Standing.{Standing}
 use Rattle.mp_admit.specs.Standings.{standing_of, standings_of}
-use Rattle.mp_admit.proofs.GameLemmas.{after_refused, after_stopped, after_played, after_none}
+use Rattle.mp_admit.proofs.GameLemmas.{after_refused, after_stopped}
 use Rattle.mp_admit.proofs.game.pass_junction.Goals as goal
 
 pub returns-in-Err-clause-calculation : goal.returns-in-Err-clause-calculation

@@ -1,5 +1,4 @@
 use Rattle.std.proofs.Common.{Some}
-use Rattle.mp_model.specs.Network.{junction_at, own}
 use Rattle.mp_flow.specs.Calculating.{flows_of}
 use Rattle.mp_verdict.specs.Passing.{times}
 use Rattle.mp_verdict.specs.Rates.{unit_need}

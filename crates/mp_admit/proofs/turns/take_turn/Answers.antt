@@ -1,10 +1,8 @@
-use Rattle.std.proofs.Common.{◌≡◌, ◌≤ℤ◌, ◌∙◌, pos, List, ℤ, Some, None, true, false, Vec, Global, drop, Result, sym, subst, ap}
+use Rattle.std.proofs.Common.{◌≡◌, ◌∙◌, List, ℤ, Some, None, true, false, Vec, Global, drop, Result, sym, subst, ap}
 use Rattle.mp_model.specs.Network.{junction_at}
 use Rattle.mp_flow.specs.Calculating.{flows_of}
-use Rattle.mp_flow.specs.declared.network.CalcFault.{CalcFault}
 use Rattle.mp_flow.specs.declared.network.Place.{Place}
 use Rattle.mp_simplex.specs.declared.Optimum.{Optimum}
-use Rattle.mp_simplex.specs.Meeting.{IsOptimum}
 use Rattle.mp_simplex.specs.Outcome.{maximised}
 use Rattle.mp_verdict.specs.Rates.{rates_in}
 use Rattle.mp_verdict.specs.Program.{program, optimum_at}

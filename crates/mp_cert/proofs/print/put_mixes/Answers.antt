@@ -1,4 +1,4 @@
-use Rattle.std.proofs.Common.{◌≡◌, [], ◌∷◌, ◌+◌, ◌++◌, ◌<◌, length, take, map, get_or, refl, rules, arith, sym, ◌∙◌, ap}
+use Rattle.std.proofs.Common.{[], ◌∷◌, ◌+◌, ◌++◌, take, map, rules}
 use Rattle.std.proofs.lemmas.Result.{err_from_is_err_and}
 use Rattle.mp_model.specs.Log.{text_of}
 use Rattle.mp_cert.specs.Texts.{line_with, mix_words, mix_numbers, mix_lines}

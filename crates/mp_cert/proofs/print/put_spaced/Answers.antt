@@ -1,4 +1,4 @@
-use Rattle.std.proofs.Common.{◌∷◌, pos, get_or, take, refl}
+use Rattle.std.proofs.Common.{◌∷◌, pos, get_or, take}
 use Rattle.std.specs.Fmt.{signed_decimal}
 use Rattle.std.specs.List.{flat_map}
 use Rattle.std.proofs.lemmas.Result.{err_from_is_err_and}

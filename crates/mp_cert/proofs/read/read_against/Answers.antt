@@ -1,6 +1,6 @@
-use Rattle.std.proofs.Common.{◌≡◌, [], ◌∷◌, length, rules, ◌∙◌}
+use Rattle.std.proofs.Common.{◌≡◌, [], ◌∷◌, length, ◌∙◌}
 use Rattle.std.proofs.lemmas.Result.{err_from_is_err_and}
-use Rattle.mp_cert.proofs.HeadLemmas.{vector_form, p_form, vector_start, p_read, p_fails, vector_read, vector_fails, row_from_first, fault_from_first}
+use Rattle.mp_cert.proofs.HeadLemmas.{p_read, p_fails, vector_read, vector_fails, row_from_first, fault_from_first}
 use Rattle.mp_cert.proofs.MeaningLemmas.{vector_fits}
 use Rattle.mp_cert.proofs.read.read_against.Goals as goal
 

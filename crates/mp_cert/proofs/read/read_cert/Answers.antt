@@ -1,7 +1,6 @@
-use Rattle.std.proofs.Common.{◌≡◌, Ok, rules, ◌∙◌, to_z-of_z, ap, sym}
+use Rattle.std.proofs.Common.{rules, to_z-of_z}
 use Rattle.std.specs.Int.{w128}
 use Rattle.std.specs.Prelude.{FitsSigned}
-use Rattle.mp_cert.specs.TextMeaning.{cert_meaning}
 use Rattle.mp_cert.proofs.HeadLemmas.{cert_from_first}
 use Rattle.mp_cert.proofs.MeaningLemmas.{cert_fits}
 use Rattle.mp_cert.proofs.read.read_cert.Goals as goal

@@ -1,4 +1,4 @@
-use Rattle.std.proofs.Common.{◌≡◌, ℕ, Some, None, ◌∙◌, ap, sym, rules, arith, drop, take, get_or, to_z-of_z}
+use Rattle.std.proofs.Common.{Some, ◌∙◌, ap, sym, rules, drop, take, to_z-of_z}
 use Rattle.std.specs.Int.{w128}
 use Rattle.std.specs.Prelude.{FitsSigned}
 use Rattle.std.specs.List.{position_or_len}

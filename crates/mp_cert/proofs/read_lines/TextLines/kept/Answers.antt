@@ -1,4 +1,4 @@
-use Rattle.std.proofs.Common.{rules, arith, sym}
+use Rattle.std.proofs.Common.{rules}
 use Rattle.mp_cert.proofs.RowLemmas.{same_further}
 use Rattle.mp_cert.proofs.read_lines.TextLines.kept.Goals as goal
 
