@@ -13,12 +13,15 @@ use Rattle.mp_cert.specs.Checking.{check_outcome}
 use Rattle.mp_cert.specs.TextMeaning.{cert_meaning, vector_meaning}
 use Rattle.mp_cert.specs.Weighing.{weighed}
 use Rattle.mp_cert.specs.declared.types.CertFault.TheVariants as fault
+use Rattle.mp_flow.specs.declared.network.Place.{Place}
 use Rattle.mp_flow.specs.declared.network.Place.TheVariants as at
+use Rattle.mp_verdict.specs.Stated.{PassesAt}
+use Rattle.mp_verdict.specs.Verdict.{verdict}
 use Rattle.mp_netfile.specs.Meaning.{file_meaning}
-use Rattle.mp_run.specs.Running.{IsTaken, StartsWith, RefusedAt, RefusedAbove, HasTooMany}
+use Rattle.mp_run.specs.Running.{IsTaken, StartsWith, Finished, RefusedAt, RefusedAbove, HasTooMany}
 use Rattle.mp_run.proofs.AboveLemmas.{not_excessive, not_finished, not_refused_at, not_many}
 use Rattle.mp_cli.specs.declared.command.Command.{Command}
-use Rattle.mp_cli.specs.declared.command.Command.TheVariants.{Run, Show, Certify, Check, Refute, Unknown}
+use Rattle.mp_cli.specs.declared.command.Command.TheVariants.{Run, RunWith, Show, Certify, Check, Refute, Unknown}
 use Rattle.mp_cli.specs.declared.outcome.FileRole.{FileRole}
 use Rattle.mp_cli.specs.declared.outcome.FileRole.TheVariants.{Net}
 use Rattle.mp_cli.specs.declared.outcome.TextKind.TheVariants.{Certificate, Vector}
@@ -27,8 +30,9 @@ use Rattle.mp_cli.specs.declared.outcome.Outcome.TheVariants.{Done, Words, Store
 use Rattle.mp_cli.specs.Commands.{command_of, name_of, other_of}
 use Rattle.mp_cli.specs.Statuses.{status_of}
 use Rattle.mp_cli.specs.Others.{Files, OfCert, OfVector, IsBroken, numbers, IsZero, IsWeak}
-use Rattle.mp_cli.specs.Ends.{head, OfNetwork, Acts, Means}
-use Rattle.mp_cli.specs.Complete.{IsThere, IsGoodFile, IsGoodStream, IsExcessiveStream, IsAdmittable, IsGoodCert, IsGoodVector, GoodFor, IsGood, IsExcessive}
+use Rattle.mp_cli.specs.Ends.{OfNetwork, Acts, Means}
+use Rattle.mp_cli.specs.Runs.{Runs, RunsWith, OfAdmitted, PassesUnder, HasBounds}
+use Rattle.mp_cli.specs.Complete.{IsThere, IsGoodFile, IsGoodStream, IsExcessiveStream, IsAdmittable, IsRunnable, IsRunnableWith, CanRun, IsGoodCert, IsGoodVector, GoodFor, IsGood, IsExcessive}
 use Rattle.mp_cli.proofs.VectorLemmas.{no_sum}
 
 -- a fact of the file that is there
@@ -70,17 +74,17 @@ longer net text kinds kinds' more kind whole part =
     let same : kinds ≡ kinds' ++ kind ∷ more = sym (append-nil kinds) ∙ sym whole.lines ∙ part.lines in
     omega (arith, ap length same, length-append kinds' (kind ∷ more))
 
-no_refusal : (net : Network) (kind : LineKind) (n : ℕ) (left rest was now : Option (List ℕ)) → IsGoodStream net left → RefusedAt net head kind n left rest was now → IsTaken kind
-no_refusal net kind n left rest was now good refused =
+no_refusal : (net : Network) (head : List ℕ) (kind : LineKind) (n : ℕ) (left rest was now : Option (List ℕ)) → IsGoodStream net left → RefusedAt net head kind n left rest was now → IsTaken kind
+no_refusal net head kind n left rest was now good refused =
     let told : Tells (Some good.text) rest (λ text rest. (more : List LineKind) × StartsWith net text refused.kinds (kind ∷ more)) =
     subst (λ (l : Option (List ℕ)). Tells l rest (λ text rest. (more : List LineKind) × StartsWith net text refused.kinds (kind ∷ more))) good.told refused.read in
     taken_there net good.text good.kinds refused.kinds told.2.0 kind good.lines told.2.1
 
-not_above : (net : Network) (n p l : ℕ) (left rest was now : Option (List ℕ)) → IsGoodStream net left → RefusedAbove net head n p l left rest was now → ⊥
-not_above net n p l left rest was now good refused = not_excessive net head n p l left rest was now refused good.text good.told good.kinds good.lines good.permitted
+not_above : (net : Network) (head : List ℕ) (n p l : ℕ) (left rest was now : Option (List ℕ)) → IsGoodStream net left → RefusedAbove net head n p l left rest was now → ⊥
+not_above net head n p l left rest was now good refused = not_excessive net head n p l left rest was now refused good.text good.told good.kinds good.lines good.permitted
 
-not_too_many : (net : Network) (left rest was now : Option (List ℕ)) → IsGoodStream net left → HasTooMany net head left rest was now → ⊥
-not_too_many net left rest was now good many =
+not_too_many : (net : Network) (head : List ℕ) (left rest was now : Option (List ℕ)) → IsGoodStream net left → HasTooMany net head left rest was now → ⊥
+not_too_many net head left rest was now good many =
     let told : Tells (Some good.text) rest (λ text rest. (kind : LineKind) × (more : List LineKind) × StartsWith net text many.kinds (kind ∷ more)) =
     subst (λ (l : Option (List ℕ)). Tells l rest (λ text rest. (kind : LineKind) × (more : List LineKind) × StartsWith net text many.kinds (kind ∷ more))) good.told many.read in
     let size = longer net good.text good.kinds many.kinds told.2.1 told.2.0 good.lines told.2.2 in
@@ -95,58 +99,121 @@ not_refused files name good e told = let is = of_there files name (λ bytes. fil
 abbrev pub IsDoneUnlessMemory : ℕ → Type 0
 IsDoneUnlessMemory status = (status ≡ 0) ⊎ (status ≡ 12)
 
+-- no place passes under a certificate that is accepted and whose bounds are found and have room
+not_passes : (net : Network) (cert : Cert) (place : Place) → check_outcome net cert ≡ Ok tt → HasBounds net cert → PassesUnder net place cert → ⊥
+not_passes net cert at.Certificate checked bounds passes = let no = sym passes ∙ checked in cc
+not_passes net cert at.Bound checked bounds passes = bounds.found passes.num passes.den passes.slack passes.is
+not_passes net cert at.Room checked bounds passes = bounds.room passes.num passes.den passes.slack passes.is
+not_passes net cert place checked bounds passes = absurd passes
+
+-- the certificate of an admitted network is the one of the stated calculation
+of_admitted : (net : Network) (P : Cert → Type 0) (can : IsAdmittable net) → OfAdmitted net P → P can.cert
+of_admitted net P can found =
+    let same : found.cert ≡ can.cert = (let e = sym found.reached ∙ can.reached in cc) in
+    subst P same found.is
+
+-- an outcome of a run that stands behind its header, or a fault or want from outside
+abbrev pub IsRunEnd : Outcome → Type 0
+IsRunEnd Done = Unit {0}
+IsRunEnd NoMemory = Unit {0}
+IsRunEnd (Store file) = Unit {0}
+IsRunEnd Read = Unit {0}
+IsRunEnd Write = Unit {0}
+IsRunEnd (Long n) = Unit {0}
+IsRunEnd (Grammar n) = Unit {0}
+IsRunEnd (Above n p l) = Unit {0}
+IsRunEnd LineLimit = Unit {0}
+IsRunEnd outcome = ⊥
+
+only_ends_run : (outcome : Outcome) (net : Network) (files : Files) (other : List ℕ) (left rest was now : Option (List ℕ)) → IsRunnable net → Acts outcome Run net files other left rest was now → IsRunEnd outcome
+only_ends_run (LongText Certificate) net files other left rest was now can is = absurd is.0
+only_ends_run (LongText Vector) net files other left rest was now can is = absurd (let no = is.0 in cc)
+only_ends_run (Text Certificate n) net files other left rest was now can is = absurd is.0
+only_ends_run (Text Vector n) net files other left rest was now can is = absurd (let no = is.0 in cc)
+only_ends_run (Critical against) net files other left rest was now can is = absurd (let no = sym can.admitted.reached ∙ is.1.reached in cc)
+only_ends_run (Overloaded against) net files other left rest was now can is = absurd (let no = sym can.admitted.reached ∙ is.1.reached in cc)
+only_ends_run (FailsRule broken) net files other left rest was now can is = absurd is.0
+only_ends_run ZeroVector net files other left rest was now can is = absurd (let no = is.0 in cc)
+only_ends_run WeakVector net files other left rest was now can is = absurd (let no = is.0 in cc)
+only_ends_run (Overflow place) net files other left rest was now can is =
+    absurd (
+      ⊎_elim
+      (λ (passes : verdict net (weighed net) ≡ PassesAt place). (let no = sym can.admitted.reached ∙ passes in cc))
+      (λ (found : OfAdmitted net (PassesUnder net place)). not_passes net can.admitted.cert place can.checked can.bounds (of_admitted net (PassesUnder net place) can.admitted found))
+      is.0)
+only_ends_run (PivotLimit j) net files other left rest was now can is = absurd (let no = sym can.admitted.reached ∙ is.1 in cc)
+only_ends_run Words net files other left rest was now can is = absurd is
+only_ends_run (BadNetwork rule spot) net files other left rest was now can is = absurd is
+only_ends_run outcome net files other left rest was now can is = tt
+
+only_ends_with : (outcome : Outcome) (net : Network) (files : Files) (other : List ℕ) (left rest was now : Option (List ℕ)) → IsRunnableWith net files other → Acts outcome RunWith net files other left rest was now → IsRunEnd outcome
+only_ends_with (LongText Certificate) net files other left rest was now can is = absurd (let long = of_there files other (λ bytes. 1048576 < length bytes) can.given.file is.1 in let few = can.given.few in omega arith)
+only_ends_with (LongText Vector) net files other left rest was now can is = absurd (let no = is.0 in cc)
+only_ends_with (Text Certificate n) net files other left rest was now can is = absurd (let bad = of_there files other (λ bytes. cert_meaning net bytes ≡ Err n) can.given.file is.1 in let no = sym bad ∙ can.given.read in cc)
+only_ends_with (Text Vector n) net files other left rest was now can is = absurd (let no = is.0 in cc)
+only_ends_with (Critical against) net files other left rest was now can is = absurd is.0
+only_ends_with (Overloaded against) net files other left rest was now can is = absurd is.0
+only_ends_with (FailsRule broken) net files other left rest was now can is = absurd (let bad = cert_of_good net files other (IsBroken net broken) can.given is.1 in let no = sym bad.told ∙ can.given.holds in cc)
+only_ends_with ZeroVector net files other left rest was now can is = absurd (let no = is.0 in cc)
+only_ends_with WeakVector net files other left rest was now can is = absurd (let no = is.0 in cc)
+only_ends_with (Overflow place) net files other left rest was now can is = absurd (not_passes net can.given.cert place can.given.holds can.bounds (cert_of_good net files other (PassesUnder net place) can.given is.0))
+only_ends_with (PivotLimit j) net files other left rest was now can is = absurd is.0
+only_ends_with Words net files other left rest was now can is = absurd is
+only_ends_with (BadNetwork rule spot) net files other left rest was now can is = absurd is
+only_ends_with outcome net files other left rest was now can is = tt
+
+only_ends : (command : Command) (outcome : Outcome) (net : Network) (files : Files) (other : List ℕ) (left rest was now : Option (List ℕ)) → CanRun command net files other → Acts outcome command net files other left rest was now → IsRunEnd outcome
+only_ends Run outcome net files other left rest was now can is = only_ends_run outcome net files other left rest was now can is
+only_ends RunWith outcome net files other left rest was now can is = only_ends_with outcome net files other left rest was now can is
+only_ends command outcome net files other left rest was now can is = absurd can
+
+-- the run ended behind some header
+behind_head : (command : Command) (net : Network) (files : Files) (other : List ℕ) (Ends : List ℕ → Type 0) → CanRun command net files other → Runs command net files other Ends → (head : List ℕ) × Ends head
+behind_head Run net files other Ends can runs = (_, runs.is.runs.runs.ends)
+behind_head RunWith net files other Ends can runs = (_, (cert_of_good net files other (RunsWith net Ends) can.given runs).runs.ends)
+behind_head command net files other Ends can runs = absurd can
+
 -- a good stream is not refused
-good_run : (outcome : Outcome) (net : Network) (files : Files) (other : List ℕ) (left rest was now : Option (List ℕ)) → IsGoodStream net left → Acts outcome Run net files other left rest was now
-    → ((file : FileRole) → outcome ≡ Store file → ⊥) → (outcome ≡ Read → ⊥) → (outcome ≡ Write → ⊥) → IsDoneUnlessMemory (status_of outcome)
-good_run Done net files other left rest was now good is s r w = inl refl
-good_run NoMemory net files other left rest was now good is s r w = inr refl
-good_run (Store file) net files other left rest was now good is s r w = absurd (s file refl)
-good_run Read net files other left rest was now good is s r w = absurd (r refl)
-good_run Write net files other left rest was now good is s r w = absurd (w refl)
-good_run (Long n) net files other left rest was now good is s r w = absurd (no_refusal net long_line n left rest was now good is.1)
-good_run (Grammar n) net files other left rest was now good is s r w = absurd (no_refusal net bad_line n left rest was now good is.1)
-good_run (Above n p l) net files other left rest was now good is s r w = absurd (not_above net n p l left rest was now good is.1)
-good_run LineLimit net files other left rest was now good is s r w = absurd (not_too_many net left rest was now good is.1)
-good_run (LongText Certificate) net files other left rest was now good is s r w = absurd (let no = is.0 in cc)
-good_run (LongText Vector) net files other left rest was now good is s r w = absurd (let no = is.0 in cc)
-good_run (Text Certificate n) net files other left rest was now good is s r w = absurd (let no = is.0 in cc)
-good_run (Text Vector n) net files other left rest was now good is s r w = absurd (let no = is.0 in cc)
-good_run (Critical against) net files other left rest was now good is s r w = absurd (let no = is.0 in cc)
-good_run (Overloaded against) net files other left rest was now good is s r w = absurd (let no = is.0 in cc)
-good_run (PivotLimit j) net files other left rest was now good is s r w = absurd (let no = is.0 in cc)
-good_run (FailsRule broken) net files other left rest was now good is s r w = absurd (let no = is.0 in cc)
-good_run ZeroVector net files other left rest was now good is s r w = absurd (let no = is.0 in cc)
-good_run WeakVector net files other left rest was now good is s r w = absurd (let no = is.0 in cc)
-good_run (Overflow place) net files other left rest was now good is s r w = absurd is.0
-good_run outcome net files other left rest was now good is s r w = absurd is
+good_run : (outcome : Outcome) (command : Command) (net : Network) (files : Files) (other : List ℕ) (left rest was now : Option (List ℕ)) → CanRun command net files other → IsGoodStream net left → Acts outcome command net files other left rest was now
+    → ((file : FileRole) → outcome ≡ Store file → ⊥) → (outcome ≡ Read → ⊥) → (outcome ≡ Write → ⊥) → IsRunEnd outcome → IsDoneUnlessMemory (status_of outcome)
+good_run Done command net files other left rest was now can good is s r w ends = inl refl
+good_run NoMemory command net files other left rest was now can good is s r w ends = inr refl
+good_run (Store file) command net files other left rest was now can good is s r w ends = absurd (s file refl)
+good_run Read command net files other left rest was now can good is s r w ends = absurd (r refl)
+good_run Write command net files other left rest was now can good is s r w ends = absurd (w refl)
+good_run (Long n) command net files other left rest was now can good is s r w ends =
+    absurd (let e = behind_head command net files other (λ head. RefusedAt net head long_line n left rest was now) can is in no_refusal net e.0 long_line n left rest was now good e.1)
+good_run (Grammar n) command net files other left rest was now can good is s r w ends =
+    absurd (let e = behind_head command net files other (λ head. RefusedAt net head bad_line n left rest was now) can is in no_refusal net e.0 bad_line n left rest was now good e.1)
+good_run (Above n p l) command net files other left rest was now can good is s r w ends =
+    absurd (let e = behind_head command net files other (λ head. RefusedAbove net head n p l left rest was now) can is in not_above net e.0 n p l left rest was now good e.1)
+good_run LineLimit command net files other left rest was now can good is s r w ends =
+    absurd (let e = behind_head command net files other (λ head. HasTooMany net head left rest was now) can is in not_too_many net e.0 left rest was now good e.1)
+good_run outcome command net files other left rest was now can good is s r w ends = absurd ends
 
 -- a stream above a bucket is refused as that, or memory was wanting
 abbrev pub IsAboveUnlessMemory : ℕ → Type 0
 IsAboveUnlessMemory status = (status ≡ 8) ⊎ (status ≡ 12)
 
-excessive_run : (outcome : Outcome) (net : Network) (files : Files) (other : List ℕ) (left rest was now : Option (List ℕ)) → IsExcessiveStream net left → Acts outcome Run net files other left rest was now
-    → ((file : FileRole) → outcome ≡ Store file → ⊥) → (outcome ≡ Read → ⊥) → (outcome ≡ Write → ⊥) → IsAboveUnlessMemory (status_of outcome)
-excessive_run (Above n p l) net files other left rest was now stream is s r w = inl refl
-excessive_run NoMemory net files other left rest was now stream is s r w = inr refl
-excessive_run Done net files other left rest was now stream is s r w = absurd (not_finished net stream.text stream.line stream.period stream.link stream.above left rest was now stream.told head is)
-excessive_run (Store file) net files other left rest was now stream is s r w = absurd (s file refl)
-excessive_run Read net files other left rest was now stream is s r w = absurd (r refl)
-excessive_run Write net files other left rest was now stream is s r w = absurd (w refl)
-excessive_run (Long n) net files other left rest was now stream is s r w = absurd (not_refused_at net stream.text stream.line stream.period stream.link stream.above left rest was now stream.told head long_line n (λ taken. taken) is.1)
-excessive_run (Grammar n) net files other left rest was now stream is s r w = absurd (not_refused_at net stream.text stream.line stream.period stream.link stream.above left rest was now stream.told head bad_line n (λ taken. taken) is.1)
-excessive_run LineLimit net files other left rest was now stream is s r w = absurd (not_many net stream.text stream.line stream.period stream.link stream.above left rest was now stream.told head stream.few is.1)
-excessive_run (LongText Certificate) net files other left rest was now stream is s r w = absurd (let no = is.0 in cc)
-excessive_run (LongText Vector) net files other left rest was now stream is s r w = absurd (let no = is.0 in cc)
-excessive_run (Text Certificate n) net files other left rest was now stream is s r w = absurd (let no = is.0 in cc)
-excessive_run (Text Vector n) net files other left rest was now stream is s r w = absurd (let no = is.0 in cc)
-excessive_run (Critical against) net files other left rest was now stream is s r w = absurd (let no = is.0 in cc)
-excessive_run (Overloaded against) net files other left rest was now stream is s r w = absurd (let no = is.0 in cc)
-excessive_run (PivotLimit j) net files other left rest was now stream is s r w = absurd (let no = is.0 in cc)
-excessive_run (FailsRule broken) net files other left rest was now stream is s r w = absurd (let no = is.0 in cc)
-excessive_run ZeroVector net files other left rest was now stream is s r w = absurd (let no = is.0 in cc)
-excessive_run WeakVector net files other left rest was now stream is s r w = absurd (let no = is.0 in cc)
-excessive_run (Overflow place) net files other left rest was now stream is s r w = absurd is.0
-excessive_run outcome net files other left rest was now stream is s r w = absurd is
+excessive_run : (outcome : Outcome) (command : Command) (net : Network) (files : Files) (other : List ℕ) (left rest was now : Option (List ℕ)) → CanRun command net files other → IsExcessiveStream net left → Acts outcome command net files other left rest was now
+    → ((file : FileRole) → outcome ≡ Store file → ⊥) → (outcome ≡ Read → ⊥) → (outcome ≡ Write → ⊥) → IsRunEnd outcome → IsAboveUnlessMemory (status_of outcome)
+excessive_run (Above n p l) command net files other left rest was now can stream is s r w ends = inl refl
+excessive_run NoMemory command net files other left rest was now can stream is s r w ends = inr refl
+excessive_run Done Run net files other left rest was now can stream is s r w ends =
+    absurd (let e = behind_head Run net files other (λ head. Finished net head left rest was now) can is in not_finished net stream.text stream.line stream.period stream.link stream.above left rest was now stream.told e.0 e.1)
+excessive_run Done RunWith net files other left rest was now can stream is s r w ends =
+    absurd (let e = behind_head RunWith net files other (λ head. Finished net head left rest was now) can is in not_finished net stream.text stream.line stream.period stream.link stream.above left rest was now stream.told e.0 e.1)
+excessive_run Done command net files other left rest was now can stream is s r w ends = absurd can
+excessive_run (Store file) command net files other left rest was now can stream is s r w ends = absurd (s file refl)
+excessive_run Read command net files other left rest was now can stream is s r w ends = absurd (r refl)
+excessive_run Write command net files other left rest was now can stream is s r w ends = absurd (w refl)
+excessive_run (Long n) command net files other left rest was now can stream is s r w ends =
+    absurd (let e = behind_head command net files other (λ head. RefusedAt net head long_line n left rest was now) can is in not_refused_at net stream.text stream.line stream.period stream.link stream.above left rest was now stream.told e.0 long_line n (λ taken. taken) e.1)
+excessive_run (Grammar n) command net files other left rest was now can stream is s r w ends =
+    absurd (let e = behind_head command net files other (λ head. RefusedAt net head bad_line n left rest was now) can is in not_refused_at net stream.text stream.line stream.period stream.link stream.above left rest was now stream.told e.0 bad_line n (λ taken. taken) e.1)
+excessive_run LineLimit command net files other left rest was now can stream is s r w ends =
+    absurd (let e = behind_head command net files other (λ head. HasTooMany net head left rest was now) can is in not_many net stream.text stream.line stream.period stream.link stream.above left rest was now stream.told e.0 stream.few e.1)
+excessive_run outcome command net files other left rest was now can stream is s r w ends = absurd ends
 
 -- a network can always be shown
 good_show : (outcome : Outcome) (net : Network) (files : Files) (other : List ℕ) (left rest was now : Option (List ℕ)) → Acts outcome Show net files other left rest was now
@@ -155,22 +222,17 @@ good_show Done net files other left rest was now is s w = inl refl
 good_show NoMemory net files other left rest was now is s w = inr refl
 good_show (Store file) net files other left rest was now is s w = absurd (s file refl)
 good_show Write net files other left rest was now is s w = absurd (w refl)
-good_show (LongText Certificate) net files other left rest was now is s w = absurd (let no = is.0 in cc)
+good_show (LongText Certificate) net files other left rest was now is s w = absurd is.0
 good_show (LongText Vector) net files other left rest was now is s w = absurd (let no = is.0 in cc)
-good_show (Text Certificate n) net files other left rest was now is s w = absurd (let no = is.0 in cc)
+good_show (Text Certificate n) net files other left rest was now is s w = absurd is.0
 good_show (Text Vector n) net files other left rest was now is s w = absurd (let no = is.0 in cc)
-good_show (Critical against) net files other left rest was now is s w = absurd (let no = is.0 in cc)
-good_show (Overloaded against) net files other left rest was now is s w = absurd (let no = is.0 in cc)
-good_show (PivotLimit j) net files other left rest was now is s w = absurd (let no = is.0 in cc)
-good_show (FailsRule broken) net files other left rest was now is s w = absurd (let no = is.0 in cc)
+good_show (Critical against) net files other left rest was now is s w = absurd is.0
+good_show (Overloaded against) net files other left rest was now is s w = absurd is.0
+good_show (PivotLimit j) net files other left rest was now is s w = absurd is.0
+good_show (FailsRule broken) net files other left rest was now is s w = absurd is.0
 good_show ZeroVector net files other left rest was now is s w = absurd (let no = is.0 in cc)
 good_show WeakVector net files other left rest was now is s w = absurd (let no = is.0 in cc)
 good_show (Overflow place) net files other left rest was now is s w = absurd is.0
-good_show (Long n) net files other left rest was now is s w = absurd (let no = is.0 in cc)
-good_show (Grammar n) net files other left rest was now is s w = absurd (let no = is.0 in cc)
-good_show (Above n p l) net files other left rest was now is s w = absurd (let no = is.0 in cc)
-good_show LineLimit net files other left rest was now is s w = absurd (let no = is.0 in cc)
-good_show Read net files other left rest was now is s w = absurd (let no = is.0 in cc)
 good_show outcome net files other left rest was now is s w = absurd is
 
 -- a certificate that holds is accepted
@@ -184,19 +246,14 @@ good_check (LongText Certificate) net files other left rest was now good is s w 
 good_check (LongText Vector) net files other left rest was now good is s w = absurd (let no = is.0 in cc)
 good_check (Text Certificate n) net files other left rest was now good is s w = absurd (let bad = of_there files other (λ bytes. cert_meaning net bytes ≡ Err n) good.file is.1 in let no = sym bad ∙ good.read in cc)
 good_check (Text Vector n) net files other left rest was now good is s w = absurd (let no = is.0 in cc)
-good_check (Critical against) net files other left rest was now good is s w = absurd (let no = is.0 in cc)
-good_check (Overloaded against) net files other left rest was now good is s w = absurd (let no = is.0 in cc)
-good_check (PivotLimit j) net files other left rest was now good is s w = absurd (let no = is.0 in cc)
+good_check (Critical against) net files other left rest was now good is s w = absurd is.0
+good_check (Overloaded against) net files other left rest was now good is s w = absurd is.0
+good_check (PivotLimit j) net files other left rest was now good is s w = absurd is.0
 good_check (FailsRule broken) net files other left rest was now good is s w = absurd (let bad = cert_of_good net files other (IsBroken net broken) good is.1 in let no = sym bad.told ∙ good.holds in cc)
 good_check ZeroVector net files other left rest was now good is s w = absurd (let no = is.0 in cc)
 good_check WeakVector net files other left rest was now good is s w = absurd (let no = is.0 in cc)
 good_check (Overflow at.Certificate) net files other left rest was now good is s w = absurd (let bad = cert_of_good net files other (λ cert. check_outcome net cert ≡ Err fault.Overflow) good is.0 in let no = sym bad ∙ good.holds in cc)
 good_check (Overflow place) net files other left rest was now good is s w = absurd is.0
-good_check (Long n) net files other left rest was now good is s w = absurd (let no = is.0 in cc)
-good_check (Grammar n) net files other left rest was now good is s w = absurd (let no = is.0 in cc)
-good_check (Above n p l) net files other left rest was now good is s w = absurd (let no = is.0 in cc)
-good_check LineLimit net files other left rest was now good is s w = absurd (let no = is.0 in cc)
-good_check Read net files other left rest was now good is s w = absurd (let no = is.0 in cc)
 good_check outcome net files other left rest was now good is s w = absurd is
 
 -- a vector that speaks against the network is not all 0
@@ -218,23 +275,18 @@ good_refute Done net files other left rest was now good is s w = inl refl
 good_refute NoMemory net files other left rest was now good is s w = inr refl
 good_refute (Store file) net files other left rest was now good is s w = absurd (s file refl)
 good_refute Write net files other left rest was now good is s w = absurd (w refl)
-good_refute (LongText Certificate) net files other left rest was now good is s w = absurd (let no = is.0 in cc)
+good_refute (LongText Certificate) net files other left rest was now good is s w = absurd is.0
 good_refute (LongText Vector) net files other left rest was now good is s w = absurd (let long = of_there files other (λ bytes. 1048576 < length bytes) good.file is.1 in let few = good.few in omega arith)
-good_refute (Text Certificate n) net files other left rest was now good is s w = absurd (let no = is.0 in cc)
+good_refute (Text Certificate n) net files other left rest was now good is s w = absurd is.0
 good_refute (Text Vector n) net files other left rest was now good is s w = absurd (let bad = of_there files other (λ bytes. vector_meaning net bytes ≡ Err n) good.file is.1 in let no = sym bad ∙ good.read in cc)
-good_refute (Critical against) net files other left rest was now good is s w = absurd (let no = is.0 in cc)
-good_refute (Overloaded against) net files other left rest was now good is s w = absurd (let no = is.0 in cc)
-good_refute (PivotLimit j) net files other left rest was now good is s w = absurd (let no = is.0 in cc)
-good_refute (FailsRule broken) net files other left rest was now good is s w = absurd (let no = is.0 in cc)
+good_refute (Critical against) net files other left rest was now good is s w = absurd is.0
+good_refute (Overloaded against) net files other left rest was now good is s w = absurd is.0
+good_refute (PivotLimit j) net files other left rest was now good is s w = absurd is.0
+good_refute (FailsRule broken) net files other left rest was now good is s w = absurd is.0
 good_refute ZeroVector net files other left rest was now good is s w = absurd (not_zero net good.p (vector_of net (numbers good.p) good.shows) (vector_of_good net files other IsZero good is.1))
 good_refute WeakVector net files other left rest was now good is s w = absurd (not_weak net (numbers good.p) good.shows (vector_of_good net files other (IsWeak net) good is.1).below)
 good_refute (Overflow at.Vector) net files other left rest was now good is s w = absurd (let bad = vector_of_good net files other (λ p. weighed net p ≡ None) good is.0 in let no = sym bad ∙ good.formed in cc)
 good_refute (Overflow place) net files other left rest was now good is s w = absurd is.0
-good_refute (Long n) net files other left rest was now good is s w = absurd (let no = is.0 in cc)
-good_refute (Grammar n) net files other left rest was now good is s w = absurd (let no = is.0 in cc)
-good_refute (Above n p l) net files other left rest was now good is s w = absurd (let no = is.0 in cc)
-good_refute LineLimit net files other left rest was now good is s w = absurd (let no = is.0 in cc)
-good_refute Read net files other left rest was now good is s w = absurd (let no = is.0 in cc)
 good_refute outcome net files other left rest was now good is s w = absurd is
 
 -- a network that the stated calculation admits is certified
@@ -248,18 +300,13 @@ good_certify (Critical against) net files other left rest was now good is s w = 
 good_certify (Overloaded against) net files other left rest was now good is s w = absurd (let no = sym good.reached ∙ is.1.reached in cc)
 good_certify (Overflow place) net files other left rest was now good is s w = absurd (let no = sym good.reached ∙ is.0 in cc)
 good_certify (PivotLimit j) net files other left rest was now good is s w = absurd (let no = sym good.reached ∙ is.1 in cc)
-good_certify (LongText Certificate) net files other left rest was now good is s w = absurd (let no = is.0 in cc)
+good_certify (LongText Certificate) net files other left rest was now good is s w = absurd is.0
 good_certify (LongText Vector) net files other left rest was now good is s w = absurd (let no = is.0 in cc)
-good_certify (Text Certificate n) net files other left rest was now good is s w = absurd (let no = is.0 in cc)
+good_certify (Text Certificate n) net files other left rest was now good is s w = absurd is.0
 good_certify (Text Vector n) net files other left rest was now good is s w = absurd (let no = is.0 in cc)
-good_certify (FailsRule broken) net files other left rest was now good is s w = absurd (let no = is.0 in cc)
+good_certify (FailsRule broken) net files other left rest was now good is s w = absurd is.0
 good_certify ZeroVector net files other left rest was now good is s w = absurd (let no = is.0 in cc)
 good_certify WeakVector net files other left rest was now good is s w = absurd (let no = is.0 in cc)
-good_certify (Long n) net files other left rest was now good is s w = absurd (let no = is.0 in cc)
-good_certify (Grammar n) net files other left rest was now good is s w = absurd (let no = is.0 in cc)
-good_certify (Above n p l) net files other left rest was now good is s w = absurd (let no = is.0 in cc)
-good_certify LineLimit net files other left rest was now good is s w = absurd (let no = is.0 in cc)
-good_certify Read net files other left rest was now good is s w = absurd (let no = is.0 in cc)
 good_certify outcome net files other left rest was now good is s w = absurd is
 
 -- on a good network file the command acts on its network
@@ -276,7 +323,8 @@ memory_done outcome is = subst (λ (o : Outcome). IsDoneUnlessMemory (status_of 
 
 good_command : (command : Command) (outcome : Outcome) (net : Network) (files : Files) (other : List ℕ) (left rest was now : Option (List ℕ)) → GoodFor command net files other left
     → ((file : FileRole) → outcome ≡ Store file → ⊥) → (outcome ≡ Read → ⊥) → (outcome ≡ Write → ⊥) → Acts outcome command net files other left rest was now → IsDoneUnlessMemory (status_of outcome)
-good_command Run outcome net files other left rest was now good s r w is = good_run outcome net files other left rest was now good is s r w
+good_command Run outcome net files other left rest was now good s r w is = good_run outcome Run net files other left rest was now good.0 good.1 is s r w (only_ends Run outcome net files other left rest was now good.0 is)
+good_command RunWith outcome net files other left rest was now good s r w is = good_run outcome RunWith net files other left rest was now good.0 good.1 is s r w (only_ends RunWith outcome net files other left rest was now good.0 is)
 good_command Show outcome net files other left rest was now good s r w is = good_show outcome net files other left rest was now is s w
 good_command Certify outcome net files other left rest was now good s r w is = good_certify outcome net files other left rest was now good is s w
 good_command Check outcome net files other left rest was now good s r w is = good_check outcome net files other left rest was now good is s w
@@ -294,14 +342,17 @@ complete_all outcome words files left rest was now good s r w means =
     (λ (acts : Acts outcome (command_of words) good.file.net files (other_of words) left rest was now). good_command (command_of words) outcome good.file.net files (other_of words) left rest was now good.given s r w acts)
     (acts_on outcome (command_of words) files (name_of words) (other_of words) left rest was now good.file (listed (command_of words) good.file.net files (other_of words) left good.given) s means)
 
+can_listed : (command : Command) (net : Network) (files : Files) (other : List ℕ) → CanRun command net files other → command ≡ Unknown → ⊥
+can_listed command net files other can is = subst (λ (k : Command). CanRun k net files other) is can
+
 pub excessive_all : (outcome : Outcome) (words : List (List ℕ)) (files : Files) (left rest was now : Option (List ℕ)) → IsExcessive words files left → ((file : FileRole) → outcome ≡ Store file → ⊥) → (outcome ≡ Read → ⊥) → (outcome ≡ Write → ⊥)
     → Means outcome (command_of words) files (name_of words) (other_of words) left rest was now → IsAboveUnlessMemory (status_of outcome)
 excessive_all outcome words files left rest was now given s r w means =
     ⊎_elim
     (λ (memory : outcome ≡ NoMemory). subst (λ (o : Outcome). IsAboveUnlessMemory (status_of o)) (sym memory) (inr refl))
     (λ (acts : Acts outcome (command_of words) given.file.net files (other_of words) left rest was now).
-    excessive_run outcome given.file.net files (other_of words) left rest was now given.stream (subst (λ (k : Command). Acts outcome k given.file.net files (other_of words) left rest was now) given.run acts) s r w)
-    (acts_on outcome (command_of words) files (name_of words) (other_of words) left rest was now given.file (λ unknown. let no = sym given.run ∙ unknown in cc) s means)
+    excessive_run outcome (command_of words) given.file.net files (other_of words) left rest was now given.can given.stream acts s r w (only_ends (command_of words) outcome given.file.net files (other_of words) left rest was now given.can acts))
+    (acts_on outcome (command_of words) files (name_of words) (other_of words) left rest was now given.file (can_listed (command_of words) given.file.net files (other_of words) given.can) s means)
 
 -- what the call was handed is what the words say
 pub of_words : (outcome : Outcome) (command : Command) (name other : List ℕ) (words : List (List ℕ)) (files : Files) (left rest was now : Option (List ℕ)) → command ≡ command_of words → name ≡ name_of words → other ≡ other_of words

@@ -16,9 +16,10 @@ use Rattle.mp_verdict.specs.Verdict.{verdict, Admitted}
 use Rattle.mp_netfile.specs.Meaning.{file_meaning}
 use Rattle.mp_run.specs.Running.{StartsWith, IsAboveAt}
 use Rattle.mp_cli.specs.declared.command.Command.{Command}
-use Rattle.mp_cli.specs.declared.command.Command.TheVariants.{Run, Show, Certify, Check, Refute, Unknown}
+use Rattle.mp_cli.specs.declared.command.Command.TheVariants.{Run, RunWith, Show, Certify, Check, Refute, Unknown}
 use Rattle.mp_cli.specs.Commands.{command_of, name_of, other_of}
 use Rattle.mp_cli.specs.Others.{Files, numbers}
+use Rattle.mp_cli.specs.Runs.{HasBounds}
 
 -- The files are told, and one has that name.
 pub record IsThere (files : Files) (name : List ℕ) : Type 0 where
@@ -77,9 +78,27 @@ pub record IsAdmittable (net : Network) : Type 0 where
   pub slack : Fraction
   pub reached : verdict net (weighed net) ≡ Reached (Admitted cert vector slack)
 
+-- The network is admitted, the check of its certificate passes nothing, and the bounds are found and have room.
+pub record IsRunnable (net : Network) : Type 0 where
+  pub admitted : IsAdmittable net
+  pub checked : check_outcome net admitted.cert ≡ Ok tt
+  pub bounds : HasBounds net admitted.cert
+
+-- The other file is a certificate that is accepted, and its bounds are found and have room.
+pub record IsRunnableWith (net : Network) (files : Files) (other : List ℕ) : Type 0 where
+  pub given : IsGoodCert net files other
+  pub bounds : HasBounds net given.cert
+
+-- A command can run a stream on the network.
+abbrev pub CanRun : Command → Network → Files → List ℕ → Type 0
+CanRun Run net files other = IsRunnable net
+CanRun RunWith net files other = IsRunnableWith net files other
+CanRun command net files other = ⊥
+
 -- What a command is given beside the network is good.
 abbrev pub GoodFor : Command → Network → Files → List ℕ → Option (List ℕ) → Type 0
-GoodFor Run net files other left = IsGoodStream net left
+GoodFor Run net files other left = CanRun Run net files other × IsGoodStream net left
+GoodFor RunWith net files other left = CanRun RunWith net files other × IsGoodStream net left
 GoodFor Show net files other left = Unit {0}
 GoodFor Certify net files other left = IsAdmittable net
 GoodFor Check net files other left = IsGoodCert net files other
@@ -91,8 +110,8 @@ pub record IsGood (words : List (List ℕ)) (files : Files) (left : Option (List
   pub file : IsGoodFile files (name_of words)
   pub given : GoodFor (command_of words) file.net files (other_of words) left
 
--- The words ask for a run, the network file is one of a network, and the stream is above a bucket.
+-- The words ask for a run, the network file is one of a network that can be run, and the stream is above a bucket.
 pub record IsExcessive (words : List (List ℕ)) (files : Files) (left : Option (List ℕ)) : Type 0 where
-  pub run : command_of words ≡ Run
   pub file : IsGoodFile files (name_of words)
+  pub can : CanRun (command_of words) file.net files (other_of words)
   pub stream : IsExcessiveStream file.net left
