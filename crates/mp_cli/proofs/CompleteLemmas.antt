@@ -137,10 +137,10 @@ only_ends_run ZeroVector net files other left rest was now can is = absurd (let 
 only_ends_run WeakVector net files other left rest was now can is = absurd (let no = is.0 in cc)
 only_ends_run (Overflow place) net files other left rest was now can is =
     absurd (
-      ⊎_elim
-      (λ (passes : verdict net (weighed net) ≡ PassesAt place). (let no = sym can.admitted.reached ∙ passes in cc))
-      (λ (found : OfAdmitted net (PassesUnder net place)). not_passes net can.admitted.cert place can.checked can.bounds (of_admitted net (PassesUnder net place) can.admitted found))
-      is.0)
+    ⊎_elim
+    (λ (passes : verdict net (weighed net) ≡ PassesAt place). (let no = sym can.admitted.reached ∙ passes in cc))
+    (λ (found : OfAdmitted net (PassesUnder net place)). not_passes net can.admitted.cert place can.checked can.bounds (of_admitted net (PassesUnder net place) can.admitted found))
+    is.0)
 only_ends_run (PivotLimit j) net files other left rest was now can is = absurd (let no = sym can.admitted.reached ∙ is.1 in cc)
 only_ends_run Words net files other left rest was now can is = absurd is
 only_ends_run (BadNetwork rule spot) net files other left rest was now can is = absurd is

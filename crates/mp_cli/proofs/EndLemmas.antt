@@ -113,4 +113,3 @@ ten_read outcome is = absurd (omega arith)
 pub eleven_write : (outcome : Outcome) → status_of outcome ≡ 11 → outcome ≡ Write
 eleven_write Write is = refl
 eleven_write outcome is = absurd (omega arith)
-

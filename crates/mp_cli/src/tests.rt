@@ -29,6 +29,9 @@ const AT_FIVE: &str =
 const AT_FOUR: &str =
     "version = 1\nshares = 1\nper = 4\n[[link]]\nname = \"a\"\nburst = 2\nrate = 4\n[[link]]\nname = \"b\"\nburst = 2\nrate = 4\n[[movement]]\nname = \"ao\"\nfrom = \"a\"\nto = \"out\"\nshare = 1\nflow = 2\n[[movement]]\nname = \"bo\"\nfrom = \"b\"\nto = \"out\"\nshare = 1\nflow = 2\n[[junction]]\nname = \"j\"\nstages = [[\"ao\"], [\"bo\"]]\n";
 
+const ONE_LINK: &str =
+    "version = 1\nshares = 1\nper = 1\n[[link]]\nname = \"a\"\nrate = 1\n[[movement]]\nname = \"ao\"\nfrom = \"a\"\nto = \"out\"\nshare = 1\nflow = 2\n[[junction]]\nname = \"j\"\nstages = [[\"ao\"]]\n";
+
 // A ring of forty links, and a chain of twelve.
 const RING: &str =
     "version = 1\nshares = 1000\nper = 1\n[[link]]\nname = \"r1\"\nburst = 1\nrate = 1\n[[link]]\nname = \"r2\"\n[[link]]\nname = \"r3\"\n[[link]]\nname = \"r4\"\n[[link]]\nname = \"r5\"\n[[link]]\nname = \"r6\"\n[[link]]\nname = \"r7\"\n[[link]]\nname = \"r8\"\n[[link]]\nname = \"r9\"\n[[link]]\nname = \"r10\"\n[[link]]\nname = \"r11\"\n[[link]]\nname = \"r12\"\n[[link]]\nname = \"r13\"\n[[link]]\nname = \"r14\"\n[[link]]\nname = \"r15\"\n[[link]]\nname = \"r16\"\n[[link]]\nname = \"r17\"\n[[link]]\nname = \"r18\"\n[[link]]\nname = \"r19\"\n[[link]]\nname = \"r20\"\n[[link]]\nname = \"r21\"\n[[link]]\nname = \"r22\"\n[[link]]\nname = \"r23\"\n[[link]]\nname = \"r24\"\n[[link]]\nname = \"r25\"\n[[link]]\nname = \"r26\"\n[[link]]\nname = \"r27\"\n[[link]]\nname = \"r28\"\n[[link]]\nname = \"r29\"\n[[link]]\nname = \"r30\"\n[[link]]\nname = \"r31\"\n[[link]]\nname = \"r32\"\n[[link]]\nname = \"r33\"\n[[link]]\nname = \"r34\"\n[[link]]\nname = \"r35\"\n[[link]]\nname = \"r36\"\n[[link]]\nname = \"r37\"\n[[link]]\nname = \"r38\"\n[[link]]\nname = \"r39\"\n[[link]]\nname = \"r40\"\n[[movement]]\nname = \"r1n\"\nfrom = \"r1\"\nto = \"r2\"\nshare = 999\nflow = 1000\n[[movement]]\nname = \"r1x\"\nfrom = \"r1\"\nto = \"out\"\nshare = 1\nflow = 1000\n[[movement]]\nname = \"r2n\"\nfrom = \"r2\"\nto = \"r3\"\nshare = 999\nflow = 1000\n[[movement]]\nname = \"r2x\"\nfrom = \"r2\"\nto = \"out\"\nshare = 1\nflow = 1000\n[[movement]]\nname = \"r3n\"\nfrom = \"r3\"\nto = \"r4\"\nshare = 999\nflow = 1000\n[[movement]]\nname = \"r3x\"\nfrom = \"r3\"\nto = \"out\"\nshare = 1\nflow = 1000\n[[movement]]\nname = \"r4n\"\nfrom = \"r4\"\nto = \"r5\"\nshare = 999\nflow = 1000\n[[movement]]\nname = \"r4x\"\nfrom = \"r4\"\nto = \"out\"\nshare = 1\nflow = 1000\n[[movement]]\nname = \"r5n\"\nfrom = \"r5\"\nto = \"r6\"\nshare = 999\nflow = 1000\n[[movement]]\nname = \"r5x\"\nfrom = \"r5\"\nto = \"out\"\nshare = 1\nflow = 1000\n[[movement]]\nname = \"r6n\"\nfrom = \"r6\"\nto = \"r7\"\nshare = 999\nflow = 1000\n[[movement]]\nname = \"r6x\"\nfrom = \"r6\"\nto = \"out\"\nshare = 1\nflow = 1000\n[[movement]]\nname = \"r7n\"\nfrom = \"r7\"\nto = \"r8\"\nshare = 999\nflow = 1000\n[[movement]]\nname = \"r7x\"\nfrom = \"r7\"\nto = \"out\"\nshare = 1\nflow = 1000\n[[movement]]\nname = \"r8n\"\nfrom = \"r8\"\nto = \"r9\"\nshare = 999\nflow = 1000\n[[movement]]\nname = \"r8x\"\nfrom = \"r8\"\nto = \"out\"\nshare = 1\nflow = 1000\n[[movement]]\nname = \"r9n\"\nfrom = \"r9\"\nto = \"r10\"\nshare = 999\nflow = 1000\n[[movement]]\nname = \"r9x\"\nfrom = \"r9\"\nto = \"out\"\nshare = 1\nflow = 1000\n[[movement]]\nname = \"r10n\"\nfrom = \"r10\"\nto = \"r11\"\nshare = 999\nflow = 1000\n[[movement]]\nname = \"r10x\"\nfrom = \"r10\"\nto = \"out\"\nshare = 1\nflow = 1000\n[[movement]]\nname = \"r11n\"\nfrom = \"r11\"\nto = \"r12\"\nshare = 999\nflow = 1000\n[[movement]]\nname = \"r11x\"\nfrom = \"r11\"\nto = \"out\"\nshare = 1\nflow = 1000\n[[movement]]\nname = \"r12n\"\nfrom = \"r12\"\nto = \"r13\"\nshare = 999\nflow = 1000\n[[movement]]\nname = \"r12x\"\nfrom = \"r12\"\nto = \"out\"\nshare = 1\nflow = 1000\n[[movement]]\nname = \"r13n\"\nfrom = \"r13\"\nto = \"r14\"\nshare = 999\nflow = 1000\n[[movement]]\nname = \"r13x\"\nfrom = \"r13\"\nto = \"out\"\nshare = 1\nflow = 1000\n[[movement]]\nname = \"r14n\"\nfrom = \"r14\"\nto = \"r15\"\nshare = 999\nflow = 1000\n[[movement]]\nname = \"r14x\"\nfrom = \"r14\"\nto = \"out\"\nshare = 1\nflow = 1000\n[[movement]]\nname = \"r15n\"\nfrom = \"r15\"\nto = \"r16\"\nshare = 999\nflow = 1000\n[[movement]]\nname = \"r15x\"\nfrom = \"r15\"\nto = \"out\"\nshare = 1\nflow = 1000\n[[movement]]\nname = \"r16n\"\nfrom = \"r16\"\nto = \"r17\"\nshare = 999\nflow = 1000\n[[movement]]\nname = \"r16x\"\nfrom = \"r16\"\nto = \"out\"\nshare = 1\nflow = 1000\n[[movement]]\nname = \"r17n\"\nfrom = \"r17\"\nto = \"r18\"\nshare = 999\nflow = 1000\n[[movement]]\nname = \"r17x\"\nfrom = \"r17\"\nto = \"out\"\nshare = 1\nflow = 1000\n[[movement]]\nname = \"r18n\"\nfrom = \"r18\"\nto = \"r19\"\nshare = 999\nflow = 1000\n[[movement]]\nname = \"r18x\"\nfrom = \"r18\"\nto = \"out\"\nshare = 1\nflow = 1000\n[[movement]]\nname = \"r19n\"\nfrom = \"r19\"\nto = \"r20\"\nshare = 999\nflow = 1000\n[[movement]]\nname = \"r19x\"\nfrom = \"r19\"\nto = \"out\"\nshare = 1\nflow = 1000\n[[movement]]\nname = \"r20n\"\nfrom = \"r20\"\nto = \"r21\"\nshare = 999\nflow = 1000\n[[movement]]\nname = \"r20x\"\nfrom = \"r20\"\nto = \"out\"\nshare = 1\nflow = 1000\n[[movement]]\nname = \"r21n\"\nfrom = \"r21\"\nto = \"r22\"\nshare = 999\nflow = 1000\n[[movement]]\nname = \"r21x\"\nfrom = \"r21\"\nto = \"out\"\nshare = 1\nflow = 1000\n[[movement]]\nname = \"r22n\"\nfrom = \"r22\"\nto = \"r23\"\nshare = 999\nflow = 1000\n[[movement]]\nname = \"r22x\"\nfrom = \"r22\"\nto = \"out\"\nshare = 1\nflow = 1000\n[[movement]]\nname = \"r23n\"\nfrom = \"r23\"\nto = \"r24\"\nshare = 999\nflow = 1000\n[[movement]]\nname = \"r23x\"\nfrom = \"r23\"\nto = \"out\"\nshare = 1\nflow = 1000\n[[movement]]\nname = \"r24n\"\nfrom = \"r24\"\nto = \"r25\"\nshare = 999\nflow = 1000\n[[movement]]\nname = \"r24x\"\nfrom = \"r24\"\nto = \"out\"\nshare = 1\nflow = 1000\n[[movement]]\nname = \"r25n\"\nfrom = \"r25\"\nto = \"r26\"\nshare = 999\nflow = 1000\n[[movement]]\nname = \"r25x\"\nfrom = \"r25\"\nto = \"out\"\nshare = 1\nflow = 1000\n[[movement]]\nname = \"r26n\"\nfrom = \"r26\"\nto = \"r27\"\nshare = 999\nflow = 1000\n[[movement]]\nname = \"r26x\"\nfrom = \"r26\"\nto = \"out\"\nshare = 1\nflow = 1000\n[[movement]]\nname = \"r27n\"\nfrom = \"r27\"\nto = \"r28\"\nshare = 999\nflow = 1000\n[[movement]]\nname = \"r27x\"\nfrom = \"r27\"\nto = \"out\"\nshare = 1\nflow = 1000\n[[movement]]\nname = \"r28n\"\nfrom = \"r28\"\nto = \"r29\"\nshare = 999\nflow = 1000\n[[movement]]\nname = \"r28x\"\nfrom = \"r28\"\nto = \"out\"\nshare = 1\nflow = 1000\n[[movement]]\nname = \"r29n\"\nfrom = \"r29\"\nto = \"r30\"\nshare = 999\nflow = 1000\n[[movement]]\nname = \"r29x\"\nfrom = \"r29\"\nto = \"out\"\nshare = 1\nflow = 1000\n[[movement]]\nname = \"r30n\"\nfrom = \"r30\"\nto = \"r31\"\nshare = 999\nflow = 1000\n[[movement]]\nname = \"r30x\"\nfrom = \"r30\"\nto = \"out\"\nshare = 1\nflow = 1000\n[[movement]]\nname = \"r31n\"\nfrom = \"r31\"\nto = \"r32\"\nshare = 999\nflow = 1000\n[[movement]]\nname = \"r31x\"\nfrom = \"r31\"\nto = \"out\"\nshare = 1\nflow = 1000\n[[movement]]\nname = \"r32n\"\nfrom = \"r32\"\nto = \"r33\"\nshare = 999\nflow = 1000\n[[movement]]\nname = \"r32x\"\nfrom = \"r32\"\nto = \"out\"\nshare = 1\nflow = 1000\n[[movement]]\nname = \"r33n\"\nfrom = \"r33\"\nto = \"r34\"\nshare = 999\nflow = 1000\n[[movement]]\nname = \"r33x\"\nfrom = \"r33\"\nto = \"out\"\nshare = 1\nflow = 1000\n[[movement]]\nname = \"r34n\"\nfrom = \"r34\"\nto = \"r35\"\nshare = 999\nflow = 1000\n[[movement]]\nname = \"r34x\"\nfrom = \"r34\"\nto = \"out\"\nshare = 1\nflow = 1000\n[[movement]]\nname = \"r35n\"\nfrom = \"r35\"\nto = \"r36\"\nshare = 999\nflow = 1000\n[[movement]]\nname = \"r35x\"\nfrom = \"r35\"\nto = \"out\"\nshare = 1\nflow = 1000\n[[movement]]\nname = \"r36n\"\nfrom = \"r36\"\nto = \"r37\"\nshare = 999\nflow = 1000\n[[movement]]\nname = \"r36x\"\nfrom = \"r36\"\nto = \"out\"\nshare = 1\nflow = 1000\n[[movement]]\nname = \"r37n\"\nfrom = \"r37\"\nto = \"r38\"\nshare = 999\nflow = 1000\n[[movement]]\nname = \"r37x\"\nfrom = \"r37\"\nto = \"out\"\nshare = 1\nflow = 1000\n[[movement]]\nname = \"r38n\"\nfrom = \"r38\"\nto = \"r39\"\nshare = 999\nflow = 1000\n[[movement]]\nname = \"r38x\"\nfrom = \"r38\"\nto = \"out\"\nshare = 1\nflow = 1000\n[[movement]]\nname = \"r39n\"\nfrom = \"r39\"\nto = \"r40\"\nshare = 999\nflow = 1000\n[[movement]]\nname = \"r39x\"\nfrom = \"r39\"\nto = \"out\"\nshare = 1\nflow = 1000\n[[movement]]\nname = \"r40n\"\nfrom = \"r40\"\nto = \"r1\"\nshare = 999\nflow = 1000\n[[movement]]\nname = \"r40x\"\nfrom = \"r40\"\nto = \"out\"\nshare = 1\nflow = 1000\n[[junction]]\nname = \"j1\"\nstages = [[\"r1n\", \"r1x\"]]\n[[junction]]\nname = \"j2\"\nstages = [[\"r2n\", \"r2x\"]]\n[[junction]]\nname = \"j3\"\nstages = [[\"r3n\", \"r3x\"]]\n[[junction]]\nname = \"j4\"\nstages = [[\"r4n\", \"r4x\"]]\n[[junction]]\nname = \"j5\"\nstages = [[\"r5n\", \"r5x\"]]\n[[junction]]\nname = \"j6\"\nstages = [[\"r6n\", \"r6x\"]]\n[[junction]]\nname = \"j7\"\nstages = [[\"r7n\", \"r7x\"]]\n[[junction]]\nname = \"j8\"\nstages = [[\"r8n\", \"r8x\"]]\n[[junction]]\nname = \"j9\"\nstages = [[\"r9n\", \"r9x\"]]\n[[junction]]\nname = \"j10\"\nstages = [[\"r10n\", \"r10x\"]]\n[[junction]]\nname = \"j11\"\nstages = [[\"r11n\", \"r11x\"]]\n[[junction]]\nname = \"j12\"\nstages = [[\"r12n\", \"r12x\"]]\n[[junction]]\nname = \"j13\"\nstages = [[\"r13n\", \"r13x\"]]\n[[junction]]\nname = \"j14\"\nstages = [[\"r14n\", \"r14x\"]]\n[[junction]]\nname = \"j15\"\nstages = [[\"r15n\", \"r15x\"]]\n[[junction]]\nname = \"j16\"\nstages = [[\"r16n\", \"r16x\"]]\n[[junction]]\nname = \"j17\"\nstages = [[\"r17n\", \"r17x\"]]\n[[junction]]\nname = \"j18\"\nstages = [[\"r18n\", \"r18x\"]]\n[[junction]]\nname = \"j19\"\nstages = [[\"r19n\", \"r19x\"]]\n[[junction]]\nname = \"j20\"\nstages = [[\"r20n\", \"r20x\"]]\n[[junction]]\nname = \"j21\"\nstages = [[\"r21n\", \"r21x\"]]\n[[junction]]\nname = \"j22\"\nstages = [[\"r22n\", \"r22x\"]]\n[[junction]]\nname = \"j23\"\nstages = [[\"r23n\", \"r23x\"]]\n[[junction]]\nname = \"j24\"\nstages = [[\"r24n\", \"r24x\"]]\n[[junction]]\nname = \"j25\"\nstages = [[\"r25n\", \"r25x\"]]\n[[junction]]\nname = \"j26\"\nstages = [[\"r26n\", \"r26x\"]]\n[[junction]]\nname = \"j27\"\nstages = [[\"r27n\", \"r27x\"]]\n[[junction]]\nname = \"j28\"\nstages = [[\"r28n\", \"r28x\"]]\n[[junction]]\nname = \"j29\"\nstages = [[\"r29n\", \"r29x\"]]\n[[junction]]\nname = \"j30\"\nstages = [[\"r30n\", \"r30x\"]]\n[[junction]]\nname = \"j31\"\nstages = [[\"r31n\", \"r31x\"]]\n[[junction]]\nname = \"j32\"\nstages = [[\"r32n\", \"r32x\"]]\n[[junction]]\nname = \"j33\"\nstages = [[\"r33n\", \"r33x\"]]\n[[junction]]\nname = \"j34\"\nstages = [[\"r34n\", \"r34x\"]]\n[[junction]]\nname = \"j35\"\nstages = [[\"r35n\", \"r35x\"]]\n[[junction]]\nname = \"j36\"\nstages = [[\"r36n\", \"r36x\"]]\n[[junction]]\nname = \"j37\"\nstages = [[\"r37n\", \"r37x\"]]\n[[junction]]\nname = \"j38\"\nstages = [[\"r38n\", \"r38x\"]]\n[[junction]]\nname = \"j39\"\nstages = [[\"r39n\", \"r39x\"]]\n[[junction]]\nname = \"j40\"\nstages = [[\"r40n\", \"r40x\"]]\n";
@@ -99,6 +102,16 @@ fn store(alloc: Global, fails: &[u64]) -> Result<MemStore, Fail> {
             "great",
             "certificate 1\nd 100000000000000000000000000000000000000\ne 1\nh 100000000000000000000000000000000000000 100000000000000000000000000000000000000\nmix 1 1 50000000000000000000000000000000000000 50000000000000000000000000000000000000\n",
         ),
+        ("less", "certificate 1\nd 4\ne 1\nh 2 2\nmix 1 1 1 1\n"),
+        ("one-link", ONE_LINK),
+        (
+            "roomless",
+            "certificate 1\nd 2000000000000000000\ne 1\nh 2000000000000000001\nmix 1 1 1000000000000000001\n",
+        ),
+        (
+            "boundless",
+            "certificate 1\nd 1000000000000000000000000000000\ne 1\nh 250000000000000000000000000001 250000000000000000000000000001\nmix 1 1 125000000000000000000000000001 125000000000000000000000000001\n",
+        ),
         ("ones", "vector 1\np 1 1\n"),
         ("zeros", "vector 1\np 0 0\n"),
         (
@@ -152,20 +165,24 @@ fn check(
 
 const CERT: &str = "certificate 1\nd 4\ne 3\nh 4 4\nmix 1 1 2 2\n";
 
-const FIRST: &str = "maxpressure 1\n";
+const FIRST: &str = "maxpressure 1\nslack 3/4\nbound 1 ao 24\nbound 2 bo 24\n";
 
 const ENDED: &str =
-    "maxpressure 1\np 1 a 2 1 s 1 q 2 1\np 2 a 0 0 s 1 q 0 1\np 3 a 0 0 s 2 q 0 0\nend 3 in 3 out 3 queued 0\n";
+    "maxpressure 1\nslack 3/4\nbound 1 ao 24\nbound 2 bo 24\np 1 a 2 1 s 1 q 2 1\np 2 a 0 0 s 1 q 0 1\np 3 a 0 0 s 2 q 0 0\nend 3 in 3 out 3 queued 0\n";
+
+const CORRIDOR_HEAD: &str =
+    "maxpressure 1\nslack 57387/9974\nbound 1 e1.t 17119\nbound 2 e1.l 17101\nbound 3 e1.r 17104\nbound 4 e2.t 17098\nbound 5 e2.l 17098\nbound 6 e2.r 17098\nbound 7 e3.t 17098\nbound 8 e3.l 17098\nbound 9 e3.r 17098\nbound 10 w3.t 17119\nbound 11 w3.l 17101\nbound 12 w3.r 17104\nbound 13 w2.t 17098\nbound 14 w2.l 17098\nbound 15 w2.r 17098\nbound 16 w1.t 17098\nbound 17 w1.l 17098\nbound 18 w1.r 17098\nbound 19 n1.t 17102\nbound 20 n1.l 17101\nbound 21 n1.r 17101\nbound 22 n2.t 17102\nbound 23 n2.l 17101\nbound 24 n2.r 17101\nbound 25 n3.t 17102\nbound 26 n3.l 17101\nbound 27 n3.r 17101\nbound 28 s1.t 17102\nbound 29 s1.l 17101\nbound 30 s1.r 17101\nbound 31 s2.t 17102\nbound 32 s2.l 17101\nbound 33 s2.r 17101\nbound 34 s3.t 17102\nbound 35 s3.l 17101\nbound 36 s3.r 17101\n";
 
 #[test]
 fn runs_two_links(rt: HostRuntime) -> Result<(), Fail> {
     let alloc = rt.alloc();
     let run: &[&str] = &["run", "two-links"];
-    let empty = "maxpressure 1\nend 0 in 0 out 0 queued 0\n";
+    let empty =
+        "maxpressure 1\nslack 3/4\nbound 1 ao 24\nbound 2 bo 24\nend 0 in 0 out 0 queued 0\n";
     check(&rt, alloc, &call(run, b""), 0, empty, "")?;
     check(&rt, alloc, &call(run, b"2,1\n0,0\n0,0\n"), 0, ENDED, "")?;
     let kept =
-        "maxpressure 1\np 1 a 2 1 s 1 q 2 1\np 2 a 0 0 s 1 q 0 1\nend 2 in 3 out 2 queued 1\n";
+        "maxpressure 1\nslack 3/4\nbound 1 ao 24\nbound 2 bo 24\np 1 a 2 1 s 1 q 2 1\np 2 a 0 0 s 1 q 0 1\nend 2 in 3 out 2 queued 1\n";
     let mut mixed = call(run, b"# c\n\n2 , 1\r\n0,0");
     check(&rt, alloc, &mixed, 0, kept, "")?;
     mixed.piece = 1;
@@ -178,7 +195,7 @@ fn runs_two_links(rt: HostRuntime) -> Result<(), Fail> {
 fn runs_inner_links(rt: HostRuntime) -> Result<(), Fail> {
     let alloc = rt.alloc();
     let tandem =
-        "maxpressure 1\np 1 a 1 s 1 1 q 1 0\np 2 a 0 s 1 1 q 0 1\np 3 a 0 s 1 1 q 0 0\nend 3 in 1 out 1 queued 0\n";
+        "maxpressure 1\nslack 1/4\nbound 1 xy 10\nbound 2 yo 9\np 1 a 1 s 1 1 q 1 0\np 2 a 0 s 1 1 q 0 1\np 3 a 0 s 1 1 q 0 0\nend 3 in 1 out 1 queued 0\n";
     check(
         &rt,
         alloc,
@@ -188,11 +205,11 @@ fn runs_inner_links(rt: HostRuntime) -> Result<(), Fail> {
         "",
     )?;
     let held =
-        "maxpressure 1\np 1 a 1 3 s 1 1 q 1 3\np 2 a 0 0 s 1 1 q 1 2\np 3 a 0 0 s 1 1 q 1 1\np 4 a 0 0 s 1 1 q 1 0\np 5 a 0 0 s 1 1 q 0 1\np 6 a 0 0 s 1 1 q 0 0\nend 6 in 4 out 4 queued 0\n";
+        "maxpressure 1\nslack 3/8\nbound 1 xy 18\nbound 2 yo 20\np 1 a 1 3 s 1 1 q 1 3\np 2 a 0 0 s 1 1 q 1 2\np 3 a 0 0 s 1 1 q 1 1\np 4 a 0 0 s 1 1 q 1 0\np 5 a 0 0 s 1 1 q 0 1\np 6 a 0 0 s 1 1 q 0 0\nend 6 in 4 out 4 queued 0\n";
     let six: &[u8] = b"1,3\n0,0\n0,0\n0,0\n0,0\n0,0\n";
     check(&rt, alloc, &call(&["run", "fed-tandem"], six), 0, held, "")?;
     let round =
-        "maxpressure 1\np 1 a 1 s 1 q 1 0\np 2 a 0 s 1 q 0 1\np 3 a 0 s 1 q 0 0\nend 3 in 1 out 1 queued 0\n";
+        "maxpressure 1\nslack 7/8\nbound 1 xx 14\nbound 2 xo 14\np 1 a 1 s 1 q 1 0\np 2 a 0 s 1 q 0 1\np 3 a 0 s 1 q 0 0\nend 3 in 1 out 1 queued 0\n";
     check(
         &rt,
         alloc,
@@ -262,7 +279,7 @@ fn refuses_lines(rt: HostRuntime) -> Result<(), Fail> {
         FIRST,
         "line 1 grammar\n",
     )?;
-    let one = "maxpressure 1\np 1 a 1 0 s 1 q 1 0\n";
+    let one = "maxpressure 1\nslack 3/4\nbound 1 ao 24\nbound 2 bo 24\np 1 a 1 0 s 1 q 1 0\n";
     check(
         &rt,
         alloc,
@@ -276,7 +293,7 @@ fn refuses_lines(rt: HostRuntime) -> Result<(), Fail> {
         alloc,
         &call(run, &[b'#'; 2048]),
         0,
-        "maxpressure 1\nend 0 in 0 out 0 queued 0\n",
+        "maxpressure 1\nslack 3/4\nbound 1 ao 24\nbound 2 bo 24\nend 0 in 0 out 0 queued 0\n",
         "",
     )?;
     check(
@@ -302,7 +319,7 @@ fn answers_faults(rt: HostRuntime) -> Result<(), Fail> {
         "store two-links\n",
     )?;
     check(&rt, alloc, &failing(&[], &[1], &[]), 10, FIRST, "read\n")?;
-    let one = "maxpressure 1\np 1 a 2 1 s 1 q 2 1\n";
+    let one = "maxpressure 1\nslack 3/4\nbound 1 ao 24\nbound 2 bo 24\np 1 a 2 1 s 1 q 2 1\n";
     check(&rt, alloc, &failing(&[], &[2], &[]), 10, one, "read\n")?;
     check(
         &rt,
@@ -312,11 +329,11 @@ fn answers_faults(rt: HostRuntime) -> Result<(), Fail> {
         "max",
         "write\n",
     )?;
-    let cut = "maxpressure 1\np 1 a 2 1 s 1 q 2 1\np";
+    let cut = "maxpressure 1\nslack 3/4\nbound 1 ao 24\nbound 2 bo 24\np 1 a 2 1 s 1 q 2 1\np 2";
     check(
         &rt,
         alloc,
-        &failing(&[], &[], &[(3, 1)]),
+        &failing(&[], &[], &[(6, 3)]),
         11,
         cut,
         "write\n",
@@ -329,10 +346,10 @@ fn holds_arrivals_to_buckets(rt: HostRuntime) -> Result<(), Fail> {
     let alloc = rt.alloc();
     let run: &[&str] = &["run", "two-links"];
     let tandem: &[&str] = &["run", "fed-tandem"];
-    let two = "maxpressure 1\np 1 a 2 0 s 1 q 2 0\n";
-    let three = "maxpressure 1\np 1 a 1 3 s 1 1 q 1 3\n";
+    let two = "maxpressure 1\nslack 3/4\nbound 1 ao 24\nbound 2 bo 24\np 1 a 2 0 s 1 q 2 0\n";
+    let three = "maxpressure 1\nslack 3/8\nbound 1 xy 18\nbound 2 yo 20\np 1 a 1 3 s 1 1 q 1 3\n";
     let equal =
-        "maxpressure 1\np 1 a 2 0 s 1 q 2 0\np 2 a 0 0 s 1 q 0 0\np 3 a 0 0 s 1 q 0 0\np 4 a 1 0 s 1 q 1 0\nend 4 in 3 out 2 queued 1\n";
+        "maxpressure 1\nslack 3/4\nbound 1 ao 24\nbound 2 bo 24\np 1 a 2 0 s 1 q 2 0\np 2 a 0 0 s 1 q 0 0\np 3 a 0 0 s 1 q 0 0\np 4 a 1 0 s 1 q 1 0\nend 4 in 3 out 2 queued 1\n";
     let cases: [(&[&str], &[u8], u8, &str, &str); 7] = [
         (run, b"3,0\n", 8, FIRST, "line 1 above period 1 link 1\n"),
         (run, b"3,3", 8, FIRST, "line 1 above period 1 link 1\n"),
@@ -358,7 +375,7 @@ fn holds_arrivals_to_buckets(rt: HostRuntime) -> Result<(), Fail> {
         check(&rt, alloc, &call(words, stream), status, out, err)?;
     }
     let mut unwritten = call(run, b"3,0\n");
-    unwritten.write_fails = &[(2, 1)];
+    unwritten.write_fails = &[(5, 1)];
     let above = "line 1 above period 1 link 1\n";
     check(&rt, alloc, &unwritten, 8, FIRST, above)
 }
@@ -385,6 +402,7 @@ fn runs_the_corridor(rt: HostRuntime) -> Result<(), Fail> {
         &mut errors,
     );
     assert_eq!(rt; status, 0);
+    assert!(rt; output.bytes().starts_with(CORRIDOR_HEAD.as_bytes()));
     assert!(rt;
         output
             .bytes()
@@ -554,6 +572,48 @@ fn refutes_networks(rt: HostRuntime) -> Result<(), Fail> {
         ),
         refused(&["refute", "two-links", "cert"], 3, "vector text line 1\n"),
         refused(&["refute", "two-links", "gone"], 2, "store gone\n"),
+    ];
+    check_all(&rt, rt.alloc(), &table)
+}
+
+#[test]
+fn runs_under_certificates(rt: HostRuntime) -> Result<(), Fail> {
+    let less =
+        "maxpressure 1\nslack 1/4\nbound 1 ao 62\nbound 2 bo 62\nend 0 in 0 out 0 queued 0\n";
+    let same =
+        "maxpressure 1\nslack 3/4\nbound 1 ao 24\nbound 2 bo 24\nend 0 in 0 out 0 queued 0\n";
+    let overloaded = "network overloaded\nvector 1\np 1 1\n";
+    let critical = "network critical\nvector 1\np 1 1\n";
+    let table = [
+        done(&["runwith", "two-links", "less"], less),
+        done(&["runwith", "two-links", "cert"], same),
+        refused(&["run", "at-five"], 4, overloaded),
+        refused(&["run", "at-four"], 4, critical),
+        refused(&["run", "ring"], 5, "overflow flow\n"),
+        refused(&["run", "chain"], 5, "overflow game 1\n"),
+        refused(
+            &["runwith", "two-links", "mass"],
+            4,
+            "certificate fails mass 1\n",
+        ),
+        refused(
+            &["runwith", "two-links", "short"],
+            3,
+            "certificate text line 5\n",
+        ),
+        refused(
+            &["runwith", "two-links", "great"],
+            5,
+            "overflow certificate\n",
+        ),
+        refused(&["runwith", "one-link", "roomless"], 5, "overflow room\n"),
+        refused(
+            &["runwith", "two-links", "boundless"],
+            5,
+            "overflow bound\n",
+        ),
+        refused(&["runwith", "two-links", "gone"], 2, "store gone\n"),
+        refused(&["runwith", "two-links"], 1, "words\n"),
     ];
     check_all(&rt, rt.alloc(), &table)
 }
