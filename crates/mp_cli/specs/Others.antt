@@ -1,5 +1,5 @@
 -- What is said of the other file of a command: a certificate, or a vector against the network.
-use Rattle.std.specs.Prelude.{◌≡◌, ◌≤◌, ◌<◌, ◌⊎◌, ◌*◌, ◌++◌, ℕ, ℤ, List, length, map, codes, decimal, unsigned_abs, Option, Ok, Err, pos}
+use Rattle.std.specs.Prelude.{◌≡◌, ◌<◌, ◌⊎◌, ◌*◌, ◌++◌, ℕ, ℤ, List, map, codes, decimal, unsigned_abs, Option, Ok, Err, pos}
 use Rattle.std.specs.List.{All}
 use Rattle.mp_edge.specs.Outside.{OfFile}
 use Rattle.mp_model.specs.Certificate.{Cert, Certifies, Carries}
@@ -17,7 +17,7 @@ use Rattle.mp_verdict.specs.Laws.{IsAdmitted}
 use Rattle.mp_verdict.specs.Stated.{Reached}
 use Rattle.mp_verdict.specs.Verdict.{verdict, Admitted, Critical, Overloaded}
 use Rattle.mp_cli.specs.declared.command.Command.{Command}
-use Rattle.mp_cli.specs.declared.command.Command.TheVariants.{Run, Show, Certify, Check, Refute, Unknown}
+use Rattle.mp_cli.specs.declared.command.Command.TheVariants.{Check, Refute}
 
 -- The files are told as names and bytes, or not at all.
 abbrev pub Files : Type 0
