@@ -1,34 +1,58 @@
 -- Where nothing is wrong outside, a command does what was asked, or memory was wanting.
-use Rattle.std.proofs.Common.{◌≡◌, ◌≤◌, ◌⊎◌, ◌+◌, ◌++◌, ◌∷◌, ℕ, List, [], length, refl, sym, ◌∙◌, ap, subst, arith, Some, Ok, Err, inl, inr, IsSomeAnd}
+use Rattle.std.proofs.Common.{◌≡◌, ◌≤◌, ◌<◌, ◌⊎◌, ◌+◌, ◌*◌, ◌++◌, ◌∷◌, ℕ, ℤ, List, [], length, refl, sym, ◌∙◌, ap, subst, arith, Some, None, Ok, Err, inl, inr, ⊎_elim, IsSomeAnd}
 use Rattle.std.specs.declared.option.Option.{Option}
 use Rattle.std.specs.List.{AllByRecursion}
 use Rattle.std.proofs.lemmas.List.{append-nil, length-append}
 use Rattle.mp_edge.specs.Outside.{Tells, OfFile}
-use Rattle.mp_model.specs.Network.{Network}
+use Rattle.mp_model.specs.Certificate.{Cert}
+use Rattle.mp_model.specs.Load.{IsVector, ShowsOverload, IsTight, load, capacity}
+use Rattle.mp_model.specs.Network.{Network, entry}
 use Rattle.mp_model.specs.Stream.{LineKind}
 use Rattle.mp_model.specs.Stream.LineKind.{long_line, bad_line}
+use Rattle.mp_cert.specs.Checking.{check_outcome}
+use Rattle.mp_cert.specs.TextMeaning.{cert_meaning, vector_meaning}
+use Rattle.mp_cert.specs.Weighing.{weighed}
+use Rattle.mp_cert.specs.declared.types.CertFault.TheVariants as fault
+use Rattle.mp_flow.specs.declared.network.Place.TheVariants as at
 use Rattle.mp_netfile.specs.Meaning.{file_meaning}
-use Rattle.mp_run.specs.Running.{IsTaken, StartsWith, Finished, RefusedAt, RefusedAbove, HasTooMany}
+use Rattle.mp_run.specs.Running.{IsTaken, StartsWith, RefusedAt, RefusedAbove, HasTooMany}
 use Rattle.mp_run.proofs.AboveLemmas.{not_excessive, not_finished, not_refused_at, not_many}
 use Rattle.mp_cli.specs.declared.command.Command.{Command}
-use Rattle.mp_cli.specs.declared.command.Command.TheVariants.{Run, Show}
+use Rattle.mp_cli.specs.declared.command.Command.TheVariants.{Run, Show, Certify, Check, Refute, Unknown}
+use Rattle.mp_cli.specs.declared.outcome.FileRole.{FileRole}
+use Rattle.mp_cli.specs.declared.outcome.FileRole.TheVariants.{Net}
+use Rattle.mp_cli.specs.declared.outcome.TextKind.TheVariants.{Certificate, Vector}
 use Rattle.mp_cli.specs.declared.outcome.Outcome.{Outcome}
-use Rattle.mp_cli.specs.declared.outcome.Outcome.TheVariants.{Done, Words, Store, Network as BadNetwork, Long, Grammar, Above, LineLimit, Read, Write, NoMemory}
+use Rattle.mp_cli.specs.declared.outcome.Outcome.TheVariants.{Done, Words, Store, Network as BadNetwork, LongText, Text, Critical, Overloaded, Certificate as FailsRule, ZeroVector, WeakVector, Overflow, PivotLimit, Long, Grammar, Above, LineLimit, Read, Write, NoMemory}
+use Rattle.mp_cli.specs.Commands.{command_of, name_of, other_of}
 use Rattle.mp_cli.specs.Statuses.{status_of}
-use Rattle.mp_cli.specs.Ends.{head, OfNetwork, Means}
-use Rattle.mp_cli.specs.Complete.{IsGoodFile, IsGoodStream, IsExcessiveStream}
-use Rattle.mp_cli.proofs.EndLemmas.{Files}
+use Rattle.mp_cli.specs.Others.{Files, OfCert, OfVector, IsBroken, numbers, IsZero, IsWeak}
+use Rattle.mp_cli.specs.Ends.{head, OfNetwork, Acts, Means}
+use Rattle.mp_cli.specs.Complete.{IsThere, IsGoodFile, IsGoodStream, IsExcessiveStream, IsAdmittable, IsGoodCert, IsGoodVector, GoodFor, IsGood, IsExcessive}
+use Rattle.mp_cli.proofs.VectorLemmas.{no_sum}
 
 -- a fact of the file that is there
-of_good : (files : Files) (name : List ℕ) (P : List ℕ → Type 0) (good : IsGoodFile files name) → OfFile files name P → P good.bytes
-of_good files name P good told =
-    let of_all : OfFile (Some good.all) name P = subst (λ (f : Files). OfFile f name P) good.told told in
-    subst (λ (o : Option (List ℕ)). IsSomeAnd o P) good.there of_all
+of_there : (files : Files) (name : List ℕ) (P : List ℕ → Type 0) (file : IsThere files name) → OfFile files name P → P file.bytes
+of_there files name P file told =
+    let of_all : OfFile (Some file.all) name P = subst (λ (f : Files). OfFile f name P) file.told told in
+    subst (λ (o : Option (List ℕ)). IsSomeAnd o P) file.there of_all
 
 net_of_good : (files : Files) (name : List ℕ) (P : Network → Type 0) (good : IsGoodFile files name) → OfNetwork files name P → P good.net
 net_of_good files name P good told =
-    let at = of_good files name (λ bytes. (net : Network) × (file_meaning bytes ≡ Ok net) × P net) good told in
+    let at = of_there files name (λ bytes. (net : Network) × (file_meaning bytes ≡ Ok net) × P net) good.file told in
     let same : at.0 ≡ good.net = (let e = sym at.1 ∙ good.accepted in cc) in
+    subst P same at.2
+
+cert_of_good : (net : Network) (files : Files) (other : List ℕ) (P : Cert → Type 0) (good : IsGoodCert net files other) → OfCert net files other P → P good.cert
+cert_of_good net files other P good told =
+    let at = of_there files other (λ bytes. (cert : Cert) × (cert_meaning net bytes ≡ Ok cert) × P cert) good.file told in
+    let same : at.0 ≡ good.cert = (let e = sym at.1 ∙ good.read in cc) in
+    subst P same at.2
+
+vector_of_good : (net : Network) (files : Files) (other : List ℕ) (P : List ℤ → Type 0) (good : IsGoodVector net files other) → OfVector net files other P → P good.p
+vector_of_good net files other P good told =
+    let at = of_there files other (λ bytes. (p : List ℤ) × (vector_meaning net bytes ≡ Ok p) × P p) good.file told in
+    let same : at.0 ≡ good.p = (let e = sym at.1 ∙ good.read in cc) in
     subst P same at.2
 
 taken_at : (kinds more : List LineKind) (kind : LineKind) → AllByRecursion IsTaken (kinds ++ kind ∷ more) → IsTaken kind
@@ -65,71 +89,223 @@ not_too_many net left rest was now good many =
     absurd (omega arith)
 
 not_refused : (files : Files) (name : List ℕ) (good : IsGoodFile files name) (e : _) → OfFile files name (λ bytes. file_meaning bytes ≡ Err e) → ⊥
-not_refused files name good e told = let is = of_good files name (λ bytes. file_meaning bytes ≡ Err e) good told in let other = sym is ∙ good.accepted in cc
+not_refused files name good e told = let is = of_there files name (λ bytes. file_meaning bytes ≡ Err e) good.file told in let other = sym is ∙ good.accepted in cc
 
 -- all is done, or memory was wanting
 abbrev pub IsDoneUnlessMemory : ℕ → Type 0
 IsDoneUnlessMemory status = (status ≡ 0) ⊎ (status ≡ 12)
 
-pub complete_run : (outcome : Outcome) (files : Files) (name : List ℕ) (left rest was now : Option (List ℕ)) (good : IsGoodFile files name) → IsGoodStream good.net left
-    → (outcome ≡ Store → ⊥) → (outcome ≡ Read → ⊥) → (outcome ≡ Write → ⊥) → Means outcome Run files name left rest was now → IsDoneUnlessMemory (status_of outcome)
-complete_run Done files name left rest was now good stream s r w means = inl refl
-complete_run NoMemory files name left rest was now good stream s r w means = inr refl
-complete_run Store files name left rest was now good stream s r w means = absurd (s refl)
-complete_run Read files name left rest was now good stream s r w means = absurd (r refl)
-complete_run Write files name left rest was now good stream s r w means = absurd (w refl)
-complete_run Words files name left rest was now good stream s r w means = absurd (let other = means.0 in cc)
-complete_run (BadNetwork rule spot) files name left rest was now good stream s r w means = absurd (not_refused files name good (rule, spot) means.0)
-complete_run (Long n) files name left rest was now good stream s r w means =
-    absurd (no_refusal good.net long_line n left rest was now stream (net_of_good files name (λ net. RefusedAt net head long_line n left rest was now) good means.1))
-complete_run (Grammar n) files name left rest was now good stream s r w means =
-    absurd (no_refusal good.net bad_line n left rest was now stream (net_of_good files name (λ net. RefusedAt net head bad_line n left rest was now) good means.1))
-complete_run (Above n p l) files name left rest was now good stream s r w means =
-    absurd (not_above good.net n p l left rest was now stream (net_of_good files name (λ net. RefusedAbove net head n p l left rest was now) good means.1))
-complete_run LineLimit files name left rest was now good stream s r w means =
-    absurd (not_too_many good.net left rest was now stream (net_of_good files name (λ net. HasTooMany net head left rest was now) good means.1))
+-- a good stream is not refused
+good_run : (outcome : Outcome) (net : Network) (files : Files) (other : List ℕ) (left rest was now : Option (List ℕ)) → IsGoodStream net left → Acts outcome Run net files other left rest was now
+    → ((file : FileRole) → outcome ≡ Store file → ⊥) → (outcome ≡ Read → ⊥) → (outcome ≡ Write → ⊥) → IsDoneUnlessMemory (status_of outcome)
+good_run Done net files other left rest was now good is s r w = inl refl
+good_run NoMemory net files other left rest was now good is s r w = inr refl
+good_run (Store file) net files other left rest was now good is s r w = absurd (s file refl)
+good_run Read net files other left rest was now good is s r w = absurd (r refl)
+good_run Write net files other left rest was now good is s r w = absurd (w refl)
+good_run (Long n) net files other left rest was now good is s r w = absurd (no_refusal net long_line n left rest was now good is.1)
+good_run (Grammar n) net files other left rest was now good is s r w = absurd (no_refusal net bad_line n left rest was now good is.1)
+good_run (Above n p l) net files other left rest was now good is s r w = absurd (not_above net n p l left rest was now good is.1)
+good_run LineLimit net files other left rest was now good is s r w = absurd (not_too_many net left rest was now good is.1)
+good_run (LongText Certificate) net files other left rest was now good is s r w = absurd (let no = is.0 in cc)
+good_run (LongText Vector) net files other left rest was now good is s r w = absurd (let no = is.0 in cc)
+good_run (Text Certificate n) net files other left rest was now good is s r w = absurd (let no = is.0 in cc)
+good_run (Text Vector n) net files other left rest was now good is s r w = absurd (let no = is.0 in cc)
+good_run (Critical against) net files other left rest was now good is s r w = absurd (let no = is.0 in cc)
+good_run (Overloaded against) net files other left rest was now good is s r w = absurd (let no = is.0 in cc)
+good_run (PivotLimit j) net files other left rest was now good is s r w = absurd (let no = is.0 in cc)
+good_run (FailsRule broken) net files other left rest was now good is s r w = absurd (let no = is.0 in cc)
+good_run ZeroVector net files other left rest was now good is s r w = absurd (let no = is.0 in cc)
+good_run WeakVector net files other left rest was now good is s r w = absurd (let no = is.0 in cc)
+good_run (Overflow place) net files other left rest was now good is s r w = absurd is.0
+good_run outcome net files other left rest was now good is s r w = absurd is
 
--- the stream is refused as above a bucket, or memory was wanting
+-- a stream above a bucket is refused as that, or memory was wanting
 abbrev pub IsAboveUnlessMemory : ℕ → Type 0
 IsAboveUnlessMemory status = (status ≡ 8) ⊎ (status ≡ 12)
 
-complete_above : (outcome : Outcome) (files : Files) (name : List ℕ) (left rest was now : Option (List ℕ)) (good : IsGoodFile files name) → IsExcessiveStream good.net left
-    → (outcome ≡ Store → ⊥) → (outcome ≡ Read → ⊥) → (outcome ≡ Write → ⊥) → Means outcome Run files name left rest was now → IsAboveUnlessMemory (status_of outcome)
-complete_above (Above n p l) files name left rest was now good stream s r w means = inl refl
-complete_above NoMemory files name left rest was now good stream s r w means = inr refl
-complete_above Done files name left rest was now good stream s r w means =
-    absurd (not_finished good.net stream.text stream.line stream.period stream.link stream.above left rest was now stream.told head (net_of_good files name (λ net. Finished net head left rest was now) good means))
-complete_above Store files name left rest was now good stream s r w means = absurd (s refl)
-complete_above Read files name left rest was now good stream s r w means = absurd (r refl)
-complete_above Write files name left rest was now good stream s r w means = absurd (w refl)
-complete_above Words files name left rest was now good stream s r w means = absurd (let other = means.0 in cc)
-complete_above (BadNetwork rule spot) files name left rest was now good stream s r w means = absurd (not_refused files name good (rule, spot) means.0)
-complete_above (Long n) files name left rest was now good stream s r w means =
-    absurd (not_refused_at good.net stream.text stream.line stream.period stream.link stream.above left rest was now stream.told head long_line n (λ taken. taken)
-    (net_of_good files name (λ net. RefusedAt net head long_line n left rest was now) good means.1))
-complete_above (Grammar n) files name left rest was now good stream s r w means =
-    absurd (not_refused_at good.net stream.text stream.line stream.period stream.link stream.above left rest was now stream.told head bad_line n (λ taken. taken)
-    (net_of_good files name (λ net. RefusedAt net head bad_line n left rest was now) good means.1))
-complete_above LineLimit files name left rest was now good stream s r w means =
-    absurd (not_many good.net stream.text stream.line stream.period stream.link stream.above left rest was now stream.told head stream.few (net_of_good files name (λ net. HasTooMany net head left rest was now) good means.1))
+excessive_run : (outcome : Outcome) (net : Network) (files : Files) (other : List ℕ) (left rest was now : Option (List ℕ)) → IsExcessiveStream net left → Acts outcome Run net files other left rest was now
+    → ((file : FileRole) → outcome ≡ Store file → ⊥) → (outcome ≡ Read → ⊥) → (outcome ≡ Write → ⊥) → IsAboveUnlessMemory (status_of outcome)
+excessive_run (Above n p l) net files other left rest was now stream is s r w = inl refl
+excessive_run NoMemory net files other left rest was now stream is s r w = inr refl
+excessive_run Done net files other left rest was now stream is s r w = absurd (not_finished net stream.text stream.line stream.period stream.link stream.above left rest was now stream.told head is)
+excessive_run (Store file) net files other left rest was now stream is s r w = absurd (s file refl)
+excessive_run Read net files other left rest was now stream is s r w = absurd (r refl)
+excessive_run Write net files other left rest was now stream is s r w = absurd (w refl)
+excessive_run (Long n) net files other left rest was now stream is s r w = absurd (not_refused_at net stream.text stream.line stream.period stream.link stream.above left rest was now stream.told head long_line n (λ taken. taken) is.1)
+excessive_run (Grammar n) net files other left rest was now stream is s r w = absurd (not_refused_at net stream.text stream.line stream.period stream.link stream.above left rest was now stream.told head bad_line n (λ taken. taken) is.1)
+excessive_run LineLimit net files other left rest was now stream is s r w = absurd (not_many net stream.text stream.line stream.period stream.link stream.above left rest was now stream.told head stream.few is.1)
+excessive_run (LongText Certificate) net files other left rest was now stream is s r w = absurd (let no = is.0 in cc)
+excessive_run (LongText Vector) net files other left rest was now stream is s r w = absurd (let no = is.0 in cc)
+excessive_run (Text Certificate n) net files other left rest was now stream is s r w = absurd (let no = is.0 in cc)
+excessive_run (Text Vector n) net files other left rest was now stream is s r w = absurd (let no = is.0 in cc)
+excessive_run (Critical against) net files other left rest was now stream is s r w = absurd (let no = is.0 in cc)
+excessive_run (Overloaded against) net files other left rest was now stream is s r w = absurd (let no = is.0 in cc)
+excessive_run (PivotLimit j) net files other left rest was now stream is s r w = absurd (let no = is.0 in cc)
+excessive_run (FailsRule broken) net files other left rest was now stream is s r w = absurd (let no = is.0 in cc)
+excessive_run ZeroVector net files other left rest was now stream is s r w = absurd (let no = is.0 in cc)
+excessive_run WeakVector net files other left rest was now stream is s r w = absurd (let no = is.0 in cc)
+excessive_run (Overflow place) net files other left rest was now stream is s r w = absurd is.0
+excessive_run outcome net files other left rest was now stream is s r w = absurd is
 
--- the same, of the words as they were handed in
-pub named_above : (outcome : Outcome) (command : Command) (files : Files) (shown name : List ℕ) (left rest was now : Option (List ℕ)) → command ≡ Run → shown ≡ name → (good : IsGoodFile files name) → IsExcessiveStream good.net left
-    → (outcome ≡ Store → ⊥) → (outcome ≡ Read → ⊥) → (outcome ≡ Write → ⊥) → Means outcome command files shown left rest was now → IsAboveUnlessMemory (status_of outcome)
-named_above outcome command files shown name left rest was now run same good stream s r w means =
-    let ran = subst (λ (k : Command). Means outcome k files shown left rest was now) run means in
-    complete_above outcome files name left rest was now good stream s r w (subst (λ (n : List ℕ). Means outcome Run files n left rest was now) same ran)
+-- a network can always be shown
+good_show : (outcome : Outcome) (net : Network) (files : Files) (other : List ℕ) (left rest was now : Option (List ℕ)) → Acts outcome Show net files other left rest was now
+    → ((file : FileRole) → outcome ≡ Store file → ⊥) → (outcome ≡ Write → ⊥) → IsDoneUnlessMemory (status_of outcome)
+good_show Done net files other left rest was now is s w = inl refl
+good_show NoMemory net files other left rest was now is s w = inr refl
+good_show (Store file) net files other left rest was now is s w = absurd (s file refl)
+good_show Write net files other left rest was now is s w = absurd (w refl)
+good_show (LongText Certificate) net files other left rest was now is s w = absurd (let no = is.0 in cc)
+good_show (LongText Vector) net files other left rest was now is s w = absurd (let no = is.0 in cc)
+good_show (Text Certificate n) net files other left rest was now is s w = absurd (let no = is.0 in cc)
+good_show (Text Vector n) net files other left rest was now is s w = absurd (let no = is.0 in cc)
+good_show (Critical against) net files other left rest was now is s w = absurd (let no = is.0 in cc)
+good_show (Overloaded against) net files other left rest was now is s w = absurd (let no = is.0 in cc)
+good_show (PivotLimit j) net files other left rest was now is s w = absurd (let no = is.0 in cc)
+good_show (FailsRule broken) net files other left rest was now is s w = absurd (let no = is.0 in cc)
+good_show ZeroVector net files other left rest was now is s w = absurd (let no = is.0 in cc)
+good_show WeakVector net files other left rest was now is s w = absurd (let no = is.0 in cc)
+good_show (Overflow place) net files other left rest was now is s w = absurd is.0
+good_show (Long n) net files other left rest was now is s w = absurd (let no = is.0 in cc)
+good_show (Grammar n) net files other left rest was now is s w = absurd (let no = is.0 in cc)
+good_show (Above n p l) net files other left rest was now is s w = absurd (let no = is.0 in cc)
+good_show LineLimit net files other left rest was now is s w = absurd (let no = is.0 in cc)
+good_show Read net files other left rest was now is s w = absurd (let no = is.0 in cc)
+good_show outcome net files other left rest was now is s w = absurd is
 
-pub complete_show : (outcome : Outcome) (files : Files) (name : List ℕ) (left rest was now : Option (List ℕ)) → IsGoodFile files name
-    → (outcome ≡ Store → ⊥) → (outcome ≡ Write → ⊥) → Means outcome Show files name left rest was now → IsDoneUnlessMemory (status_of outcome)
-complete_show Done files name left rest was now good s w means = inl refl
-complete_show NoMemory files name left rest was now good s w means = inr refl
-complete_show Store files name left rest was now good s w means = absurd (s refl)
-complete_show Write files name left rest was now good s w means = absurd (w refl)
-complete_show Words files name left rest was now good s w means = absurd (let other = means.0 in cc)
-complete_show (BadNetwork rule spot) files name left rest was now good s w means = absurd (not_refused files name good (rule, spot) means.0)
-complete_show (Long n) files name left rest was now good s w means = absurd (let other = means.0 in cc)
-complete_show (Grammar n) files name left rest was now good s w means = absurd (let other = means.0 in cc)
-complete_show (Above n p l) files name left rest was now good s w means = absurd (let other = means.0 in cc)
-complete_show LineLimit files name left rest was now good s w means = absurd (let other = means.0 in cc)
-complete_show Read files name left rest was now good s w means = absurd (let other = means.0 in cc)
+-- a certificate that holds is accepted
+good_check : (outcome : Outcome) (net : Network) (files : Files) (other : List ℕ) (left rest was now : Option (List ℕ)) → IsGoodCert net files other → Acts outcome Check net files other left rest was now
+    → ((file : FileRole) → outcome ≡ Store file → ⊥) → (outcome ≡ Write → ⊥) → IsDoneUnlessMemory (status_of outcome)
+good_check Done net files other left rest was now good is s w = inl refl
+good_check NoMemory net files other left rest was now good is s w = inr refl
+good_check (Store file) net files other left rest was now good is s w = absurd (s file refl)
+good_check Write net files other left rest was now good is s w = absurd (w refl)
+good_check (LongText Certificate) net files other left rest was now good is s w = absurd (let long = of_there files other (λ bytes. 1048576 < length bytes) good.file is.1 in let few = good.few in omega arith)
+good_check (LongText Vector) net files other left rest was now good is s w = absurd (let no = is.0 in cc)
+good_check (Text Certificate n) net files other left rest was now good is s w = absurd (let bad = of_there files other (λ bytes. cert_meaning net bytes ≡ Err n) good.file is.1 in let no = sym bad ∙ good.read in cc)
+good_check (Text Vector n) net files other left rest was now good is s w = absurd (let no = is.0 in cc)
+good_check (Critical against) net files other left rest was now good is s w = absurd (let no = is.0 in cc)
+good_check (Overloaded against) net files other left rest was now good is s w = absurd (let no = is.0 in cc)
+good_check (PivotLimit j) net files other left rest was now good is s w = absurd (let no = is.0 in cc)
+good_check (FailsRule broken) net files other left rest was now good is s w = absurd (let bad = cert_of_good net files other (IsBroken net broken) good is.1 in let no = sym bad.told ∙ good.holds in cc)
+good_check ZeroVector net files other left rest was now good is s w = absurd (let no = is.0 in cc)
+good_check WeakVector net files other left rest was now good is s w = absurd (let no = is.0 in cc)
+good_check (Overflow at.Certificate) net files other left rest was now good is s w = absurd (let bad = cert_of_good net files other (λ cert. check_outcome net cert ≡ Err fault.Overflow) good is.0 in let no = sym bad ∙ good.holds in cc)
+good_check (Overflow place) net files other left rest was now good is s w = absurd is.0
+good_check (Long n) net files other left rest was now good is s w = absurd (let no = is.0 in cc)
+good_check (Grammar n) net files other left rest was now good is s w = absurd (let no = is.0 in cc)
+good_check (Above n p l) net files other left rest was now good is s w = absurd (let no = is.0 in cc)
+good_check LineLimit net files other left rest was now good is s w = absurd (let no = is.0 in cc)
+good_check Read net files other left rest was now good is s w = absurd (let no = is.0 in cc)
+good_check outcome net files other left rest was now good is s w = absurd is
+
+-- a vector that speaks against the network is not all 0
+not_zero : (net : Network) (p : List ℤ) → IsVector net (numbers p) → IsZero p → ⊥
+not_zero net p vector zero = absurd (let some = vector.some in omega (arith, some, no_sum net p zero))
+
+-- and its load is not below
+not_weak : (net : Network) (p : List ℕ) → ShowsOverload net p ⊎ IsTight net p → load net (entry p) < net.per * capacity net (entry p) → ⊥
+not_weak net p (inl shows) below = absurd (let above = shows.above in omega arith)
+not_weak net p (inr tight) below = absurd (let equal = tight.equal in omega arith)
+
+vector_of : (net : Network) (p : List ℕ) → ShowsOverload net p ⊎ IsTight net p → IsVector net p
+vector_of net p (inl shows) = shows.vector
+vector_of net p (inr tight) = tight.vector
+
+good_refute : (outcome : Outcome) (net : Network) (files : Files) (other : List ℕ) (left rest was now : Option (List ℕ)) → IsGoodVector net files other → Acts outcome Refute net files other left rest was now
+    → ((file : FileRole) → outcome ≡ Store file → ⊥) → (outcome ≡ Write → ⊥) → IsDoneUnlessMemory (status_of outcome)
+good_refute Done net files other left rest was now good is s w = inl refl
+good_refute NoMemory net files other left rest was now good is s w = inr refl
+good_refute (Store file) net files other left rest was now good is s w = absurd (s file refl)
+good_refute Write net files other left rest was now good is s w = absurd (w refl)
+good_refute (LongText Certificate) net files other left rest was now good is s w = absurd (let no = is.0 in cc)
+good_refute (LongText Vector) net files other left rest was now good is s w = absurd (let long = of_there files other (λ bytes. 1048576 < length bytes) good.file is.1 in let few = good.few in omega arith)
+good_refute (Text Certificate n) net files other left rest was now good is s w = absurd (let no = is.0 in cc)
+good_refute (Text Vector n) net files other left rest was now good is s w = absurd (let bad = of_there files other (λ bytes. vector_meaning net bytes ≡ Err n) good.file is.1 in let no = sym bad ∙ good.read in cc)
+good_refute (Critical against) net files other left rest was now good is s w = absurd (let no = is.0 in cc)
+good_refute (Overloaded against) net files other left rest was now good is s w = absurd (let no = is.0 in cc)
+good_refute (PivotLimit j) net files other left rest was now good is s w = absurd (let no = is.0 in cc)
+good_refute (FailsRule broken) net files other left rest was now good is s w = absurd (let no = is.0 in cc)
+good_refute ZeroVector net files other left rest was now good is s w = absurd (not_zero net good.p (vector_of net (numbers good.p) good.shows) (vector_of_good net files other IsZero good is.1))
+good_refute WeakVector net files other left rest was now good is s w = absurd (not_weak net (numbers good.p) good.shows (vector_of_good net files other (IsWeak net) good is.1).below)
+good_refute (Overflow at.Vector) net files other left rest was now good is s w = absurd (let bad = vector_of_good net files other (λ p. weighed net p ≡ None) good is.0 in let no = sym bad ∙ good.formed in cc)
+good_refute (Overflow place) net files other left rest was now good is s w = absurd is.0
+good_refute (Long n) net files other left rest was now good is s w = absurd (let no = is.0 in cc)
+good_refute (Grammar n) net files other left rest was now good is s w = absurd (let no = is.0 in cc)
+good_refute (Above n p l) net files other left rest was now good is s w = absurd (let no = is.0 in cc)
+good_refute LineLimit net files other left rest was now good is s w = absurd (let no = is.0 in cc)
+good_refute Read net files other left rest was now good is s w = absurd (let no = is.0 in cc)
+good_refute outcome net files other left rest was now good is s w = absurd is
+
+-- a network that the stated calculation admits is certified
+good_certify : (outcome : Outcome) (net : Network) (files : Files) (other : List ℕ) (left rest was now : Option (List ℕ)) → IsAdmittable net → Acts outcome Certify net files other left rest was now
+    → ((file : FileRole) → outcome ≡ Store file → ⊥) → (outcome ≡ Write → ⊥) → IsDoneUnlessMemory (status_of outcome)
+good_certify Done net files other left rest was now good is s w = inl refl
+good_certify NoMemory net files other left rest was now good is s w = inr refl
+good_certify (Store file) net files other left rest was now good is s w = absurd (s file refl)
+good_certify Write net files other left rest was now good is s w = absurd (w refl)
+good_certify (Critical against) net files other left rest was now good is s w = absurd (let no = sym good.reached ∙ is.1.reached in cc)
+good_certify (Overloaded against) net files other left rest was now good is s w = absurd (let no = sym good.reached ∙ is.1.reached in cc)
+good_certify (Overflow place) net files other left rest was now good is s w = absurd (let no = sym good.reached ∙ is.0 in cc)
+good_certify (PivotLimit j) net files other left rest was now good is s w = absurd (let no = sym good.reached ∙ is.1 in cc)
+good_certify (LongText Certificate) net files other left rest was now good is s w = absurd (let no = is.0 in cc)
+good_certify (LongText Vector) net files other left rest was now good is s w = absurd (let no = is.0 in cc)
+good_certify (Text Certificate n) net files other left rest was now good is s w = absurd (let no = is.0 in cc)
+good_certify (Text Vector n) net files other left rest was now good is s w = absurd (let no = is.0 in cc)
+good_certify (FailsRule broken) net files other left rest was now good is s w = absurd (let no = is.0 in cc)
+good_certify ZeroVector net files other left rest was now good is s w = absurd (let no = is.0 in cc)
+good_certify WeakVector net files other left rest was now good is s w = absurd (let no = is.0 in cc)
+good_certify (Long n) net files other left rest was now good is s w = absurd (let no = is.0 in cc)
+good_certify (Grammar n) net files other left rest was now good is s w = absurd (let no = is.0 in cc)
+good_certify (Above n p l) net files other left rest was now good is s w = absurd (let no = is.0 in cc)
+good_certify LineLimit net files other left rest was now good is s w = absurd (let no = is.0 in cc)
+good_certify Read net files other left rest was now good is s w = absurd (let no = is.0 in cc)
+good_certify outcome net files other left rest was now good is s w = absurd is
+
+-- on a good network file the command acts on its network
+acts_on : (outcome : Outcome) (command : Command) (files : Files) (name other : List ℕ) (left rest was now : Option (List ℕ)) (good : IsGoodFile files name) → (command ≡ Unknown → ⊥) → ((file : FileRole) → outcome ≡ Store file → ⊥)
+    → Means outcome command files name other left rest was now → (outcome ≡ NoMemory) ⊎ Acts outcome command good.net files other left rest was now
+acts_on Words command files name other left rest was now good listed s means = absurd (listed means.0)
+acts_on (Store Net) command files name other left rest was now good listed s means = absurd (s Net refl)
+acts_on (BadNetwork rule spot) command files name other left rest was now good listed s means = absurd (not_refused files name good (rule, spot) means.0)
+acts_on NoMemory command files name other left rest was now good listed s means = inl refl
+acts_on outcome command files name other left rest was now good listed s means = inr (net_of_good files name (λ net. Acts outcome command net files other left rest was now) good means)
+
+memory_done : (outcome : Outcome) → outcome ≡ NoMemory → IsDoneUnlessMemory (status_of outcome)
+memory_done outcome is = subst (λ (o : Outcome). IsDoneUnlessMemory (status_of o)) (sym is) (inr refl)
+
+good_command : (command : Command) (outcome : Outcome) (net : Network) (files : Files) (other : List ℕ) (left rest was now : Option (List ℕ)) → GoodFor command net files other left
+    → ((file : FileRole) → outcome ≡ Store file → ⊥) → (outcome ≡ Read → ⊥) → (outcome ≡ Write → ⊥) → Acts outcome command net files other left rest was now → IsDoneUnlessMemory (status_of outcome)
+good_command Run outcome net files other left rest was now good s r w is = good_run outcome net files other left rest was now good is s r w
+good_command Show outcome net files other left rest was now good s r w is = good_show outcome net files other left rest was now is s w
+good_command Certify outcome net files other left rest was now good s r w is = good_certify outcome net files other left rest was now good is s w
+good_command Check outcome net files other left rest was now good s r w is = good_check outcome net files other left rest was now good is s w
+good_command Refute outcome net files other left rest was now good s r w is = good_refute outcome net files other left rest was now good is s w
+good_command Unknown outcome net files other left rest was now good s r w is = absurd good
+
+listed : (command : Command) (net : Network) (files : Files) (other : List ℕ) (left : Option (List ℕ)) → GoodFor command net files other left → command ≡ Unknown → ⊥
+listed command net files other left good is = subst (λ (k : Command). GoodFor k net files other left) is good
+
+pub complete_all : (outcome : Outcome) (words : List (List ℕ)) (files : Files) (left rest was now : Option (List ℕ)) → IsGood words files left → ((file : FileRole) → outcome ≡ Store file → ⊥) → (outcome ≡ Read → ⊥) → (outcome ≡ Write → ⊥)
+    → Means outcome (command_of words) files (name_of words) (other_of words) left rest was now → IsDoneUnlessMemory (status_of outcome)
+complete_all outcome words files left rest was now good s r w means =
+    ⊎_elim
+    (λ (memory : outcome ≡ NoMemory). memory_done outcome memory)
+    (λ (acts : Acts outcome (command_of words) good.file.net files (other_of words) left rest was now). good_command (command_of words) outcome good.file.net files (other_of words) left rest was now good.given s r w acts)
+    (acts_on outcome (command_of words) files (name_of words) (other_of words) left rest was now good.file (listed (command_of words) good.file.net files (other_of words) left good.given) s means)
+
+pub excessive_all : (outcome : Outcome) (words : List (List ℕ)) (files : Files) (left rest was now : Option (List ℕ)) → IsExcessive words files left → ((file : FileRole) → outcome ≡ Store file → ⊥) → (outcome ≡ Read → ⊥) → (outcome ≡ Write → ⊥)
+    → Means outcome (command_of words) files (name_of words) (other_of words) left rest was now → IsAboveUnlessMemory (status_of outcome)
+excessive_all outcome words files left rest was now given s r w means =
+    ⊎_elim
+    (λ (memory : outcome ≡ NoMemory). subst (λ (o : Outcome). IsAboveUnlessMemory (status_of o)) (sym memory) (inr refl))
+    (λ (acts : Acts outcome (command_of words) given.file.net files (other_of words) left rest was now).
+    excessive_run outcome given.file.net files (other_of words) left rest was now given.stream (subst (λ (k : Command). Acts outcome k given.file.net files (other_of words) left rest was now) given.run acts) s r w)
+    (acts_on outcome (command_of words) files (name_of words) (other_of words) left rest was now given.file (λ unknown. let no = sym given.run ∙ unknown in cc) s means)
+
+-- what the call was handed is what the words say
+pub of_words : (outcome : Outcome) (command : Command) (name other : List ℕ) (words : List (List ℕ)) (files : Files) (left rest was now : Option (List ℕ)) → command ≡ command_of words → name ≡ name_of words → other ≡ other_of words
+    → Means outcome command files name other left rest was now → Means outcome (command_of words) files (name_of words) (other_of words) left rest was now
+of_words outcome command name other words files left rest was now asked named other_named means =
+    subst (λ (k : Command). Means outcome k files (name_of words) (other_of words) left rest was now) asked
+    (subst (λ (n : List ℕ). Means outcome command files n (other_of words) left rest was now) named (subst (λ (o : List ℕ). Means outcome command files name o left rest was now) other_named means))

@@ -1,2 +1,4 @@
 pub mod CompleteLemmas
 pub mod EndLemmas
+pub mod MessageLemmas
+pub mod VectorLemmas

@@ -1,12 +1,19 @@
 -- The line on the error output of each outcome.
-use Rattle.std.specs.Prelude.{ℕ, List, [], ◌∷◌, ◌++◌, codes, decimal}
+use Rattle.std.specs.Prelude.{ℕ, Bool, true, false, List, [], ◌∷◌, ◌++◌, codes, decimal}
 use Rattle.mp_net.specs.declared.fault.NetRule.{NetRule}
 use Rattle.mp_net.specs.declared.fault.NetRule.TheVariants.{TooLong, BadToml, UnknownKey, MissingKey, BadVersion, BadNumber, BadName, Repeated, UnknownLink, BadShares, BadStage, Unserved, NoMovement, NoFedLink, NoWayOut}
 use Rattle.mp_net.specs.declared.fault.Section.{Section}
 use Rattle.mp_net.specs.declared.fault.Section.TheVariants.{Top, Link, Movement, Junction}
 use Rattle.mp_net.specs.declared.fault.Spot.{Spot}
+use Rattle.mp_cert.specs.declared.types.CertFault.{CertFault}
+use Rattle.mp_cert.specs.declared.types.CertFault.TheVariants.{D, E, H, Whole, Part, Mass, Serve, Balance, Overflow}
+use Rattle.mp_cert.specs.Texts.{vector_text}
+use Rattle.mp_flow.specs.declared.network.Place.{Place}
+use Rattle.mp_flow.specs.declared.network.Place.TheVariants as at
+use Rattle.mp_cli.specs.declared.outcome.TextKind.{TextKind}
+use Rattle.mp_cli.specs.declared.outcome.TextKind.TheVariants.{Certificate, Vector}
 use Rattle.mp_cli.specs.declared.outcome.Outcome.{Outcome}
-use Rattle.mp_cli.specs.declared.outcome.Outcome.TheVariants.{Done, Words, Store, Network, Long, Grammar, Above, LineLimit, Read, Write, NoMemory}
+use Rattle.mp_cli.specs.declared.outcome.Outcome.TheVariants as end
 
 -- This is the number of a rule of the network file.
 abbrev pub rule_number : NetRule → ℕ
@@ -37,30 +44,74 @@ section_text Junction n = codes " junction " ++ decimal n
 abbrev pub spot_text : Spot → List ℕ
 spot_text spot = section_text spot.section spot.number
 
--- This is the line of an outcome other than `Done` and a fault of the store.
-abbrev pub plain_message : Outcome → List ℕ
-plain_message Done = []
-plain_message Store = []
-plain_message Words = codes "words\n"
-plain_message (Network rule spot) = ((codes "network N" ++ decimal (rule_number rule)) ++ spot_text spot) ++ codes "\n"
-plain_message (Long n) = (codes "line " ++ decimal n) ++ codes " long\n"
-plain_message (Grammar n) = (codes "line " ++ decimal n) ++ codes " grammar\n"
-plain_message (Above n p l) = (((((codes "line " ++ decimal n) ++ codes " above period ") ++ decimal p) ++ codes " link ") ++ decimal l) ++ codes "\n"
-plain_message LineLimit = codes "lines\n"
-plain_message Read = codes "read\n"
-plain_message Write = codes "write\n"
-plain_message NoMemory = codes "memory\n"
+-- This is what the text of the other file is to be.
+abbrev pub kind_text : TextKind → List ℕ
+kind_text Certificate = codes "certificate text "
+kind_text Vector = codes "vector text "
 
--- This is the line of an outcome, with the name of the file: none where all was done.
+-- This is the rule that a certificate breaks, with the number of the movement or junction, or of the junction and the stage.
+abbrev pub fault_text : CertFault → List ℕ
+fault_text D = codes "d"
+fault_text E = codes "e"
+fault_text (H k) = codes "h " ++ decimal k
+fault_text (Whole j) = codes "whole " ++ decimal j
+fault_text (Part j s) = (codes "part " ++ decimal j) ++ (codes " " ++ decimal s)
+fault_text (Mass j) = codes "mass " ++ decimal j
+fault_text (Serve k) = codes "serve " ++ decimal k
+fault_text (Balance k) = codes "balance " ++ decimal k
+fault_text Overflow = []
+
+-- This is the place of a calculation that passes 128 bits, with the number of the junction.
+abbrev pub place_text : Place → List ℕ
+place_text at.Flow = codes "flow"
+place_text (at.Game j) = codes "game " ++ decimal j
+place_text at.Adjoint = codes "adjoint"
+place_text at.Vector = codes "vector"
+place_text (at.Mix j) = codes "mix " ++ decimal j
+place_text at.Certificate = codes "certificate"
+place_text at.Bound = codes "bound"
+place_text at.Room = codes "room"
+
+-- This is a line, named by its number.
+abbrev pub line_text : ℕ → List ℕ
+line_text n = codes "line " ++ decimal n
+
+-- These are the words of an outcome other than a fault of the store.
+abbrev pub words_of : Outcome → List ℕ
+words_of end.Words = codes "words"
+words_of (end.Network rule spot) = (codes "network N" ++ decimal (rule_number rule)) ++ spot_text spot
+words_of (end.LongText kind) = kind_text kind ++ codes "long"
+words_of (end.Text kind n) = kind_text kind ++ line_text n
+words_of (end.Critical against) = codes "network critical"
+words_of (end.Overloaded against) = codes "network overloaded"
+words_of (end.Certificate fault) = codes "certificate fails " ++ fault_text fault
+words_of end.ZeroVector = codes "vector fails zero"
+words_of end.WeakVector = codes "vector fails weak"
+words_of (end.Overflow place) = codes "overflow " ++ place_text place
+words_of (end.PivotLimit j) = codes "pivots " ++ decimal j
+words_of (end.Long n) = line_text n ++ codes " long"
+words_of (end.Grammar n) = line_text n ++ codes " grammar"
+words_of (end.Above n p l) = (line_text n ++ (codes " above period " ++ decimal p)) ++ (codes " link " ++ decimal l)
+words_of end.LineLimit = codes "lines"
+words_of end.Read = codes "read"
+words_of end.Write = codes "write"
+words_of end.NoMemory = codes "memory"
+words_of end.Done = []
+words_of (end.Store file) = []
+
+-- An outcome is a fault of the store.
+abbrev pub is_store : Outcome → Bool
+is_store (end.Store file) = true
+is_store outcome = false
+
+-- Behind the line of a critical or overloaded network stands the vector that shows it.
+abbrev pub vector_behind : Outcome → List ℕ
+vector_behind (end.Critical against) = vector_text against.p
+vector_behind (end.Overloaded against) = vector_text against.p
+vector_behind outcome = []
+
+-- This is what is told of an outcome, with the name of the file at a fault of the store: nothing where all was done.
 abbrev pub message_of : List ℕ → Outcome → List ℕ
-message_of name Store = codes "store " ++ (name ++ 10 ∷ [])
-message_of name Done = []
-message_of name Words = plain_message Words
-message_of name (Network rule spot) = plain_message (Network rule spot)
-message_of name (Long n) = plain_message (Long n)
-message_of name (Grammar n) = plain_message (Grammar n)
-message_of name (Above n p l) = plain_message (Above n p l)
-message_of name LineLimit = plain_message LineLimit
-message_of name Read = plain_message Read
-message_of name Write = plain_message Write
-message_of name NoMemory = plain_message NoMemory
+message_of name end.Done = []
+message_of name (end.Store file) = codes "store " ++ (name ++ 10 ∷ [])
+message_of name outcome = (words_of outcome ++ codes "\n") ++ vector_behind outcome

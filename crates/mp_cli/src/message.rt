@@ -1,10 +1,13 @@
 //! The line on the error output.
-ghost use Rattle.std.specs.Prelude.{◌≡◌, ◌≤◌, ◌+◌, ◌++◌, ◌∷◌, [], length, codes};
+ghost use Rattle.std.specs.Prelude.{◌≡◌, ◌≤◌, ◌+◌, ◌++◌, ◌∷◌, [], length, codes, decimal};
 ghost use Rattle.mp_edge.specs.Outside.{Tells, Puts, HasCause};
-ghost use Rattle.mp_cli.specs.Messages.{rule_number, spot_text, message_of, plain_message};
+ghost use Rattle.mp_cli.specs.Messages.{rule_number, spot_text, kind_text, fault_text, place_text, message_of, words_of, vector_behind, is_store};
 
-use crate::outcome::Outcome;
+use crate::outcome::{Outcome, TextKind};
+use itoa::Integer;
+use mp_cert::{CertFault, print_against};
 use mp_edge::{Failed, Sink};
+use mp_flow::Place;
 use mp_log::{push_number, push_text};
 use mp_net::{NetRule, Section, Spot};
 use mp_text::LineSink;
@@ -50,27 +53,119 @@ fn push_spot(line: &mut LineSink, spot: Spot)
     push_number(line, spot.number);
 }
 
-// Makes the line of an outcome that has one and is no fault of the store.
-fn push_message(line: &mut LineSink, outcome: Outcome)
+// Appends what the text of the other file is to be.
+fn push_kind(line: &mut LineSink, kind: TextKind)
+    requires { length line.old.held ≤ 200 }
+    ensures held { line.new.held ≡ line.old.held ++ kind_text kind }
+    ensures few { length line.new.held ≤ length line.old.held + 50 }
+{
+    match kind {
+        TextKind::Certificate => push_text(line, b"certificate text "),
+        TextKind::Vector => push_text(line, b"vector text "),
+    }
+}
+
+// Appends the rule that a certificate breaks, and its numbers.
+fn push_fault(line: &mut LineSink, fault: CertFault)
+    requires { length line.old.held ≤ 200 }
+    ensures held { line.new.held ≡ line.old.held ++ fault_text fault }
+    ensures few { length line.new.held ≤ length line.old.held + 120 }
+{
+    match fault {
+        CertFault::D => push_text(line, b"d"),
+        CertFault::E => push_text(line, b"e"),
+        CertFault::H(k) => push_numbered(line, b"h ", k),
+        CertFault::Whole(j) => push_numbered(line, b"whole ", j),
+        CertFault::Part(j, s) => {
+            push_numbered(line, b"part ", j);
+            push_numbered(line, b" ", s);
+        }
+        CertFault::Mass(j) => push_numbered(line, b"mass ", j),
+        CertFault::Serve(k) => push_numbered(line, b"serve ", k),
+        CertFault::Balance(k) => push_numbered(line, b"balance ", k),
+        CertFault::Overflow => {}
+    }
+}
+
+// Appends a word and a number.
+fn push_numbered<I: Integer>(line: &mut LineSink, word: &[u8], number: I)
+    requires { (length line.old.held ≤ 300) × (length word.now ≤ 20) }
+    ensures held { line.new.held ≡ line.old.held ++ (word.now ++ I.text number) }
+    ensures few { length line.new.held ≤ length line.old.held + 60 }
+{
+    push_text(line, word);
+    push_number(line, number);
+}
+
+// Appends the place of a calculation.
+fn push_place(line: &mut LineSink, place: Place)
+    requires { length line.old.held ≤ 200 }
+    ensures held { line.new.held ≡ line.old.held ++ place_text place }
+    ensures few { length line.new.held ≤ length line.old.held + 60 }
+{
+    match place {
+        Place::Flow => push_text(line, b"flow"),
+        Place::Game(j) => push_numbered(line, b"game ", j),
+        Place::Adjoint => push_text(line, b"adjoint"),
+        Place::Vector => push_text(line, b"vector"),
+        Place::Mix(j) => push_numbered(line, b"mix ", j),
+        Place::Certificate => push_text(line, b"certificate"),
+        Place::Bound => push_text(line, b"bound"),
+        Place::Room => push_text(line, b"room"),
+    }
+}
+
+// Appends `line`, and the number of a line.
+fn push_line(line: &mut LineSink, number: u64)
+    requires { length line.old.held ≤ 200 }
+    ensures held { line.new.held ≡ line.old.held ++ (codes "line " ++ decimal number) }
+    ensures few { length line.new.held ≤ length line.old.held + 50 }
+{
+    push_text(line, b"line ");
+    push_number(line, number);
+}
+
+// Makes the line of an outcome that has one and is no fault of the store, but for its line feed.
+fn push_message(line: &mut LineSink, outcome: &Outcome)
     requires { line.old.held ≡ [] }
-    ensures { line.new.held ≡ plain_message outcome }
+    ensures held { line.new.held ≡ words_of outcome.now }
+    ensures few { length line.new.held ≤ 300 }
 {
     match outcome {
-        Outcome::Done | Outcome::Store => return,
+        Outcome::Done | Outcome::Store(_) => {}
         Outcome::Words => push_text(line, b"words"),
         Outcome::Network { rule, spot } => {
             push_text(line, b"network N");
-            push_number(line, rule_number(rule));
-            push_spot(line, spot);
+            push_number(line, rule_number(*rule));
+            push_spot(line, *spot);
         }
+        Outcome::LongText(kind) => {
+            push_kind(line, *kind);
+            push_text(line, b"long");
+        }
+        Outcome::Text { kind, line: number } => {
+            push_kind(line, *kind);
+            push_line(line, *number);
+        }
+        Outcome::Critical(_) => push_text(line, b"network critical"),
+        Outcome::Overloaded(_) => push_text(line, b"network overloaded"),
+        Outcome::Certificate(fault) => {
+            push_text(line, b"certificate fails ");
+            push_fault(line, *fault);
+        }
+        Outcome::ZeroVector => push_text(line, b"vector fails zero"),
+        Outcome::WeakVector => push_text(line, b"vector fails weak"),
+        Outcome::Overflow(place) => {
+            push_text(line, b"overflow ");
+            push_place(line, *place);
+        }
+        Outcome::PivotLimit(j) => push_numbered(line, b"pivots ", *j),
         Outcome::Long { line: number } => {
-            push_text(line, b"line ");
-            push_number(line, number);
+            push_line(line, *number);
             push_text(line, b" long");
         }
         Outcome::Grammar { line: number } => {
-            push_text(line, b"line ");
-            push_number(line, number);
+            push_line(line, *number);
             push_text(line, b" grammar");
         }
         Outcome::Above {
@@ -78,19 +173,25 @@ fn push_message(line: &mut LineSink, outcome: Outcome)
             period,
             link,
         } => {
-            push_text(line, b"line ");
-            push_number(line, number);
-            push_text(line, b" above period ");
-            push_number(line, period);
-            push_text(line, b" link ");
-            push_number(line, link);
+            push_line(line, *number);
+            push_numbered(line, b" above period ", *period);
+            push_numbered(line, b" link ", *link);
         }
         Outcome::LineLimit => push_text(line, b"lines"),
         Outcome::Read => push_text(line, b"read"),
         Outcome::Write => push_text(line, b"write"),
         Outcome::NoMemory => push_text(line, b"memory"),
     }
-    push_text(line, b"\n");
+}
+
+// The outcome is a fault of the store.
+fn is_store(outcome: &Outcome) -> bool
+    ensures { result ≡ is_store outcome.now }
+{
+    match outcome {
+        Outcome::Store(_) => true,
+        _ => false,
+    }
 }
 
 // Puts the line of a fault of the store, which names the file.
@@ -103,15 +204,30 @@ fn put_store<Er: Sink>(err: &mut Er, name: &str) -> Result<(), Failed>
     err.put(b"\n")
 }
 
-/// Puts the line of an outcome other than `Done`.
-pub fn put_message<Er: Sink>(err: &mut Er, outcome: Outcome, name: &str) -> Result<(), Failed>
-    ensures bytes { Tells (Er.held err.old) (Er.held err.new) (Puts result (message_of name.now outcome)) }
+// Puts the vector that shows a critical or overloaded network.
+fn put_vector<Er: Sink>(err: &mut Er, outcome: &Outcome) -> Result<(), Failed>
+    ensures bytes { Tells (Er.held err.old) (Er.held err.new) (Puts result (vector_behind outcome.now)) }
     ensures cause { HasCause (Er.faults err.old) (Er.faults err.new) result }
 {
-    if let Outcome::Store = outcome {
+    match outcome {
+        Outcome::Critical(against) | Outcome::Overloaded(against) => print_against(err, against),
+        _ => Ok(()),
+    }
+}
+
+/// Puts what is told of an outcome other than `Done`: its line, where a fault of the store names the
+/// file, and the vector that shows a critical or overloaded network.
+pub fn put_message<Er: Sink>(err: &mut Er, outcome: &Outcome, name: &str) -> Result<(), Failed>
+    requires { ¬ (outcome.now ≡ Outcome.Done) }
+    ensures bytes { Tells (Er.held err.old) (Er.held err.new) (Puts result (message_of name.now outcome.now)) }
+    ensures cause { HasCause (Er.faults err.old) (Er.faults err.new) result }
+{
+    if is_store(outcome) {
         return put_store(err, name);
     }
     let mut line = LineSink::new();
     push_message(&mut line, outcome);
-    err.put(line.bytes())
+    push_text(&mut line, b"\n");
+    err.put(line.bytes())?;
+    put_vector(err, outcome)
 }

@@ -2,22 +2,63 @@
 ghost use Rattle.std.specs.Prelude.{◌≡◌};
 ghost use Rattle.mp_cli.specs.Statuses.{status_of};
 
-use mp_net::{LinkNo, NetRule, Spot};
+use mp_cert::{Against, CertFault};
+use mp_flow::Place;
+use mp_net::{JunctionNo, LinkNo, NetRule, Spot};
+
+/// One of the files that the words name.
+#[derive(Clone, Copy, Debug, PartialEq, Eq)]
+pub enum FileRole {
+    /// The network file.
+    Net,
+    /// The other file: a certificate or a vector.
+    Other,
+}
+
+/// What the text of the other file is to be.
+#[derive(Clone, Copy, Debug, PartialEq, Eq)]
+pub enum TextKind {
+    /// A certificate.
+    Certificate,
+    /// A vector against the network.
+    Vector,
+}
 
 /// How a command ends.
-#[derive(Clone, Copy, Debug, PartialEq, Eq)]
+#[derive(Debug, Drop)]
 pub enum Outcome {
     /// It did what was asked.
     Done,
     /// The words are not listed.
     Words,
-    /// The store met a fault.
-    Store,
+    /// The store met a fault at this file.
+    Store(FileRole),
     /// The network file breaks the rule first, there.
     Network {
         rule: NetRule,
         spot: Spot,
     },
+    /// The other file has more than 1,048,576 bytes.
+    LongText(TextKind),
+    /// The line of the other file is the first that is not in its grammar.
+    Text {
+        kind: TextKind,
+        line: u64,
+    },
+    /// The network is critical, as the vector shows.
+    Critical(Against),
+    /// The network is overloaded, as the vector shows.
+    Overloaded(Against),
+    /// The certificate breaks the rule first.
+    Certificate(CertFault),
+    /// All numbers of the vector are 0.
+    ZeroVector,
+    /// The load of the vector is below the capacity.
+    WeakVector,
+    /// A calculation passes 128 bits at this place.
+    Overflow(Place),
+    /// The turns of the game end at this junction first.
+    PivotLimit(JunctionNo),
     /// The line of the stream has more than 2,048 bytes.
     Long {
         line: u64,
@@ -44,14 +85,18 @@ pub enum Outcome {
 }
 
 /// The status that the program ends with.
-pub fn status_of(outcome: Outcome) -> u8
-    ensures { result ≡ status_of outcome }
+pub fn status_of(outcome: &Outcome) -> u8
+    ensures { result ≡ status_of outcome.now }
 {
     match outcome {
         Outcome::Done => 0,
         Outcome::Words => 1,
-        Outcome::Store => 2,
-        Outcome::Network { .. } => 3,
+        Outcome::Store(_) => 2,
+        Outcome::Network { .. } | Outcome::LongText(_) | Outcome::Text { .. } => 3,
+        Outcome::Critical(_) | Outcome::Overloaded(_) => 4,
+        Outcome::Certificate(_) | Outcome::ZeroVector | Outcome::WeakVector => 4,
+        Outcome::Overflow(_) => 5,
+        Outcome::PivotLimit(_) => 6,
         Outcome::Long { .. } | Outcome::Grammar { .. } => 7,
         Outcome::Above { .. } => 8,
         Outcome::LineLimit => 9,

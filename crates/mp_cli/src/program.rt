@@ -1,53 +1,23 @@
 //! The top call.
-ghost use Rattle.std.specs.Prelude.{◌≡◌, ◌≤◌, ◌⊎◌, ◌↔◌, IfOk, IfErr, Ok, Err, map, string_bytes};
-ghost use Rattle.mp_edge.specs.Outside.{Rose, Tells};
-ghost use Rattle.mp_cli.specs.Commands.{command_of, name_of};
-ghost use Rattle.mp_cli.specs.Ends.{OfNetwork, IsUntouched, Means, Does, IsCutShort, Reports, IsEnd};
-ghost use Rattle.mp_cli.specs.Acts.{outcome_of, RunMeans, ShowMeans};
-ghost use Rattle.mp_cli.specs.Complete.{IsGoodFile, IsGoodStream, IsExcessiveStream};
-ghost use Rattle.mp_cli.specs.Opening.{IsRefusal};
+ghost use Rattle.std.specs.Prelude.{◌≡◌, ◌≤◌, ◌⊎◌, ◌↔◌, ℕ, List, Option, map, string_bytes};
+ghost use Rattle.mp_edge.specs.Outside.{Rose};
+ghost use Rattle.mp_cli.specs.Commands.{command_of, name_of, other_of};
+ghost use Rattle.mp_cli.specs.Ends.{Acts, Means, Does, named_as, IsEnd};
+ghost use Rattle.mp_cli.specs.Outcomes.{outcome_of};
+ghost use Rattle.mp_cli.specs.Complete.{IsGood, IsExcessive};
+ghost use Rattle.mp_cli.specs.Others.{Files};
 
-use crate::command::{Command, command_of};
+use crate::checking::{certify, check, refute};
+use crate::command::{Command, command_of, name_of, other_of};
 use crate::message::put_message;
-use crate::outcome::{Outcome, status_of};
-use mp_edge::{Failed, Sink, Source, Store, StoreFault};
-use mp_net::{Net, NetFault, NetRule, Section, Spot};
-use mp_netfile::{print_net, read_net};
+use crate::opening::open_net;
+use crate::outcome::{FileRole, Outcome, status_of};
+use mp_edge::{Failed, Sink, Source, Store};
+use mp_net::Net;
+use mp_netfile::print_net;
 use mp_run::{RunEnd, run_stream};
 use mp_step::State;
 use std::alloc::Global;
-
-/// The greatest length of a network file.
-const MOST_BYTES: usize = 1_048_576;
-
-// Reads the network of the file.
-fn open_net<St: Store>(alloc: Global, name: &str, store: &mut St) -> Result<Net, Outcome>
-    ensures net { IfOk result (λ net. OfNetwork (St.files store.old) name.now (λ n. n ≡ net)) }
-    ensures refused { IfErr result (λ outcome. IsRefusal outcome (St.files store.old) name.now) }
-    ensures later { St.faults store.old ≤ St.faults store.new }
-    ensures store { result ≡ Err Outcome.Store → Rose (St.faults store.old) (St.faults store.new) }
-{
-    let mut bytes = Vec::new(alloc);
-    match store.read(alloc, name, &mut bytes, MOST_BYTES) {
-        Ok(()) => {}
-        Err(StoreFault::TooLong) => {
-            return Err(Outcome::Network {
-                rule: NetRule::TooLong,
-                spot: Spot {
-                    section: Section::Top,
-                    number: 0,
-                },
-            });
-        }
-        Err(StoreFault::Failed) => return Err(Outcome::Store),
-        Err(StoreFault::NoMemory) => return Err(Outcome::NoMemory),
-    }
-    match read_net(alloc, &bytes) {
-        Ok(net) => Ok(net),
-        Err(NetFault::Rule { rule, spot }) => Err(Outcome::Network { rule, spot }),
-        Err(NetFault::NoMemory) => Err(Outcome::NoMemory),
-    }
-}
 
 // The outcome of a run's end.
 fn outcome_of(end: RunEnd) -> Outcome
@@ -66,7 +36,7 @@ fn outcome_of(end: RunEnd) -> Outcome
 
 // Writes the log of the stream's run. All memory is taken before the first byte is put.
 fn run<In: Source, Out: Sink>(alloc: Global, net: &Net, input: &mut In, out: &mut Out) -> Outcome
-    ensures runs { RunMeans result net.now (In.left input.old) (In.left input.new) (Out.held out.old) (Out.held out.new) }
+    ensures acts { (files : Files) (other : List ℕ) → Acts result Command.Run net.now files other (In.left input.old) (In.left input.new) (Out.held out.old) (Out.held out.new) }
     ensures in_later { In.faults input.old ≤ In.faults input.new }
     ensures out_later { Out.faults out.old ≤ Out.faults out.new }
     ensures read { result ≡ Outcome.Read → Rose (In.faults input.old) (In.faults input.new) }
@@ -83,7 +53,7 @@ fn run<In: Source, Out: Sink>(alloc: Global, net: &Net, input: &mut In, out: &mu
 
 // Writes the network, as a file.
 fn show<Out: Sink>(alloc: Global, net: &Net, out: &mut Out) -> Outcome
-    ensures shows { ShowMeans result net.now (Out.held out.old) (Out.held out.new) }
+    ensures acts { (files : Files) (other : List ℕ) (left : Option (List ℕ)) → Acts result Command.Show net.now files other left left (Out.held out.old) (Out.held out.new) }
     ensures out_later { Out.faults out.old ≤ Out.faults out.new }
     ensures write { result ≡ Outcome.Write → Rose (Out.faults out.old) (Out.faults out.new) }
 {
@@ -96,52 +66,62 @@ fn show<Out: Sink>(alloc: Global, net: &Net, out: &mut Out) -> Outcome
     }
 }
 
-// Does what the command asks for on the network of the file.
+// Does what the command asks for on the network of the file, and with the other file.
 fn obey<St: Store, In: Source, Out: Sink>(
     alloc: Global,
     command: Command,
     name: &str,
+    other: &str,
     store: &mut St,
     input: &mut In,
     out: &mut Out,
 ) -> Outcome
     ensures words { command ≡ Command.Unknown → result ≡ Outcome.Words }
-    ensures means { Means result command (St.files store.old) name.now (In.left input.old) (In.left input.new) (Out.held out.old) (Out.held out.new) }
-    ensures store { result ≡ Outcome.Store → Rose (St.faults store.old) (St.faults store.new) }
+    ensures means { Means result command (St.files store.old) name.now other.now (In.left input.old) (In.left input.new) (Out.held out.old) (Out.held out.new) }
+    ensures store { (file : FileRole) → result ≡ Outcome.Store file → Rose (St.faults store.old) (St.faults store.new) }
     ensures read { result ≡ Outcome.Read → Rose (In.faults input.old) (In.faults input.new) }
     ensures write { result ≡ Outcome.Write → Rose (Out.faults out.old) (Out.faults out.new) }
 {
     if let Command::Unknown = command {
         return Outcome::Words;
     }
-    match open_net(alloc, name, store) {
-        Err(outcome) => outcome,
-        Ok(net) => match command {
-            Command::Run => run(alloc, &net, input, out),
-            _ => show(alloc, &net, out),
-        },
+    let net = match open_net(alloc, name, store) {
+        Ok(net) => net,
+        Err(outcome) => return outcome,
+    };
+    match command {
+        Command::Run => run(alloc, &net, input, out),
+        Command::Certify => certify(alloc, &net, out),
+        Command::Check => check(alloc, &net, other, store, out),
+        Command::Refute => refute(alloc, &net, other, store, out),
+        Command::Show => show(alloc, &net, out),
+        Command::Unknown => Outcome::Words,
     }
 }
 
-// The name of the network file, and nothing where the words have none.
-fn name_of(words: &[String]) -> &str
-    ensures { result.now ≡ name_of (map string_bytes words.now) }
+// The file that the line of an outcome names, if it names one.
+fn named_in<'a>(outcome: &Outcome, name: &'a str, other: &'a str) -> &'a str
+    ensures { result.now ≡ named_as outcome.now name.now other.now }
 {
-    match words {
-        [_, name, ..] => name.as_str(),
-        _ => "",
+    match outcome {
+        Outcome::Store(FileRole::Other) => other,
+        _ => name,
     }
 }
 
 /// The whole program: does what the words ask for, and answers the status to end with.
 ///
 /// `run NET` writes the log of the run of the stream on `input`; `show NET` writes the network as a
-/// file. Every status but 0 has its line on `err`, whose faults are ignored: 1 for words that are not
-/// listed, 2 for a fault of the store, 3 for the first rule that the network file breaks, 7 for the
-/// first line of the stream that is too long or not in the grammar, 8 for the first period of the
-/// stream in which some link does not keep to its bucket, 9 for more than 2^48 lines, 10 for a fault of
-/// the input, 11 for one of the output, and 12 for want of memory, which comes before the first byte is
-/// put.
+/// file; `certify NET` writes the certificate of the greatest slack; `check NET CERT` writes the slack of a certificate that holds; `refute NET VECTOR` writes the
+/// load and the capacity of a vector that speaks against the network. Every status but 0 has its line
+/// on `err`, whose faults are ignored: 1 for words that are not listed, 2 for a fault of the store, 3
+/// for the first rule that the network file breaks and for the first line of the other file that is not
+/// in its grammar, 4 for a network that is critical or overloaded, with the vector that shows it, for the
+/// first rule that a certificate breaks and for a vector that shows nothing, 5 for a calculation that
+/// passes 128 bits, 6 for the limit of turns at a junction, 7 for the first line of the stream that is too long or not in
+/// the grammar, 8 for the first period of the stream in which some link does not keep to its bucket, 9
+/// for more than 2^48 lines, 10 for a fault of the input, 11 for one of the output, and 12 for want of
+/// memory, which comes before the first byte is put.
 pub fn top<St: Store, In: Source, Out: Sink, Er: Sink>(
     alloc: Global,
     words: &[String],
@@ -153,8 +133,8 @@ pub fn top<St: Store, In: Source, Out: Sink, Er: Sink>(
     // What the status says of the words, the files, the input and both outputs.
     ensures ends { IsEnd result (map string_bytes words.now) (St.files store.old) (In.left input.old) (In.left input.new) (Out.held out.old) (Out.held out.new) (Er.held err.old) (Er.held err.new) (Er.faults err.old) (Er.faults err.new) }
 
-    // The headline: the whole log of the stream's run, or the network, and nothing else.
-    ensures done { result ≡ 0 → Does (command_of (map string_bytes words.now)) (St.files store.old) (name_of (map string_bytes words.now)) (In.left input.old) (In.left input.new) (Out.held out.old) (Out.held out.new) }
+    // The headline: the whole log of the stream's run, or what else the words ask for, and nothing else.
+    ensures done { result ≡ 0 → Does (map string_bytes words.now) (St.files store.old) (In.left input.old) (In.left input.new) (Out.held out.old) (Out.held out.new) }
     ensures quiet { result ≡ 0 → err.new ≡ err.old }
 
     // Causes by the words and by the counts of faults.
@@ -163,25 +143,22 @@ pub fn top<St: Store, In: Source, Out: Sink, Er: Sink>(
     ensures read { result ≡ 10 → Rose (In.faults input.old) (In.faults input.new) }
     ensures write { result ≡ 11 → Rose (Out.faults out.old) (Out.faults out.new) }
 
-    // Where nothing is wrong outside, all is done, the stream is refused as above a bucket, or memory was wanting.
-    ensures complete_run { command_of (map string_bytes words.now) ≡ Command.Run →
-        (file : IsGoodFile (St.files store.old) (name_of (map string_bytes words.now))) → IsGoodStream file.net (In.left input.old) →
+    // Where nothing is wrong with what was given or outside, all is done, or memory was wanting.
+    ensures complete { IsGood (map string_bytes words.now) (St.files store.old) (In.left input.old) →
         ¬ Rose (St.faults store.old) (St.faults store.new) → ¬ Rose (In.faults input.old) (In.faults input.new) → ¬ Rose (Out.faults out.old) (Out.faults out.new) →
         (result ≡ 0) ⊎ (result ≡ 12) }
-    ensures complete_above { command_of (map string_bytes words.now) ≡ Command.Run →
-        (file : IsGoodFile (St.files store.old) (name_of (map string_bytes words.now))) → IsExcessiveStream file.net (In.left input.old) →
+
+    // Where nothing is wrong but that the stream is above a bucket, it is refused as that.
+    ensures excessive { IsExcessive (map string_bytes words.now) (St.files store.old) (In.left input.old) →
         ¬ Rose (St.faults store.old) (St.faults store.new) → ¬ Rose (In.faults input.old) (In.faults input.new) → ¬ Rose (Out.faults out.old) (Out.faults out.new) →
         (result ≡ 8) ⊎ (result ≡ 12) }
-    ensures complete_show { command_of (map string_bytes words.now) ≡ Command.Show →
-        IsGoodFile (St.files store.old) (name_of (map string_bytes words.now)) →
-        ¬ Rose (St.faults store.old) (St.faults store.new) → ¬ Rose (Out.faults out.old) (Out.faults out.new) →
-        (result ≡ 0) ⊎ (result ≡ 12) }
 {
     let name = name_of(words);
-    let outcome = obey(alloc, command_of(words), name, store, input, out);
-    if let Outcome::Done = outcome {
+    let other = other_of(words);
+    let outcome = obey(alloc, command_of(words), name, other, store, input, out);
+    if let Outcome::Done = &outcome {
         return 0;
     }
-    let _ = put_message(err, outcome, name);
-    status_of(outcome)
+    let _ = put_message(err, &outcome, named_in(&outcome, name, other));
+    status_of(&outcome)
 }

@@ -23,6 +23,19 @@ const NO_EXIT: &str =
 const CORRIDOR: &str =
     "version = 1\nshares = 100\nper = 40\n[[link]]\nname = \"e1\"\nburst = 30\nrate = 600\n[[link]]\nname = \"e2\"\n[[link]]\nname = \"e3\"\n[[link]]\nname = \"w3\"\nburst = 30\nrate = 500\n[[link]]\nname = \"w2\"\n[[link]]\nname = \"w1\"\n[[link]]\nname = \"n1\"\nburst = 10\nrate = 200\n[[link]]\nname = \"n2\"\nburst = 10\nrate = 200\n[[link]]\nname = \"n3\"\nburst = 10\nrate = 200\n[[link]]\nname = \"s1\"\nburst = 10\nrate = 200\n[[link]]\nname = \"s2\"\nburst = 10\nrate = 200\n[[link]]\nname = \"s3\"\nburst = 10\nrate = 200\n[[movement]]\nname = \"e1.t\"\nfrom = \"e1\"\nto = \"e2\"\nshare = 70\nflow = 90\n[[movement]]\nname = \"e1.l\"\nfrom = \"e1\"\nto = \"out\"\nshare = 10\nflow = 40\n[[movement]]\nname = \"e1.r\"\nfrom = \"e1\"\nto = \"out\"\nshare = 20\nflow = 40\n[[movement]]\nname = \"e2.t\"\nfrom = \"e2\"\nto = \"e3\"\nshare = 70\nflow = 90\n[[movement]]\nname = \"e2.l\"\nfrom = \"e2\"\nto = \"out\"\nshare = 10\nflow = 40\n[[movement]]\nname = \"e2.r\"\nfrom = \"e2\"\nto = \"out\"\nshare = 20\nflow = 40\n[[movement]]\nname = \"e3.t\"\nfrom = \"e3\"\nto = \"out\"\nshare = 70\nflow = 90\n[[movement]]\nname = \"e3.l\"\nfrom = \"e3\"\nto = \"out\"\nshare = 10\nflow = 40\n[[movement]]\nname = \"e3.r\"\nfrom = \"e3\"\nto = \"out\"\nshare = 20\nflow = 40\n[[movement]]\nname = \"w3.t\"\nfrom = \"w3\"\nto = \"w2\"\nshare = 70\nflow = 90\n[[movement]]\nname = \"w3.l\"\nfrom = \"w3\"\nto = \"out\"\nshare = 10\nflow = 40\n[[movement]]\nname = \"w3.r\"\nfrom = \"w3\"\nto = \"out\"\nshare = 20\nflow = 40\n[[movement]]\nname = \"w2.t\"\nfrom = \"w2\"\nto = \"w1\"\nshare = 70\nflow = 90\n[[movement]]\nname = \"w2.l\"\nfrom = \"w2\"\nto = \"out\"\nshare = 10\nflow = 40\n[[movement]]\nname = \"w2.r\"\nfrom = \"w2\"\nto = \"out\"\nshare = 20\nflow = 40\n[[movement]]\nname = \"w1.t\"\nfrom = \"w1\"\nto = \"out\"\nshare = 70\nflow = 90\n[[movement]]\nname = \"w1.l\"\nfrom = \"w1\"\nto = \"out\"\nshare = 10\nflow = 40\n[[movement]]\nname = \"w1.r\"\nfrom = \"w1\"\nto = \"out\"\nshare = 20\nflow = 40\n[[movement]]\nname = \"n1.t\"\nfrom = \"n1\"\nto = \"out\"\nshare = 40\nflow = 45\n[[movement]]\nname = \"n1.l\"\nfrom = \"n1\"\nto = \"e2\"\nshare = 30\nflow = 40\n[[movement]]\nname = \"n1.r\"\nfrom = \"n1\"\nto = \"out\"\nshare = 30\nflow = 40\n[[movement]]\nname = \"n2.t\"\nfrom = \"n2\"\nto = \"out\"\nshare = 40\nflow = 45\n[[movement]]\nname = \"n2.l\"\nfrom = \"n2\"\nto = \"e3\"\nshare = 30\nflow = 40\n[[movement]]\nname = \"n2.r\"\nfrom = \"n2\"\nto = \"w1\"\nshare = 30\nflow = 40\n[[movement]]\nname = \"n3.t\"\nfrom = \"n3\"\nto = \"out\"\nshare = 40\nflow = 45\n[[movement]]\nname = \"n3.l\"\nfrom = \"n3\"\nto = \"out\"\nshare = 30\nflow = 40\n[[movement]]\nname = \"n3.r\"\nfrom = \"n3\"\nto = \"w2\"\nshare = 30\nflow = 40\n[[movement]]\nname = \"s1.t\"\nfrom = \"s1\"\nto = \"out\"\nshare = 40\nflow = 45\n[[movement]]\nname = \"s1.l\"\nfrom = \"s1\"\nto = \"out\"\nshare = 30\nflow = 40\n[[movement]]\nname = \"s1.r\"\nfrom = \"s1\"\nto = \"e2\"\nshare = 30\nflow = 40\n[[movement]]\nname = \"s2.t\"\nfrom = \"s2\"\nto = \"out\"\nshare = 40\nflow = 45\n[[movement]]\nname = \"s2.l\"\nfrom = \"s2\"\nto = \"w1\"\nshare = 30\nflow = 40\n[[movement]]\nname = \"s2.r\"\nfrom = \"s2\"\nto = \"e3\"\nshare = 30\nflow = 40\n[[movement]]\nname = \"s3.t\"\nfrom = \"s3\"\nto = \"out\"\nshare = 40\nflow = 45\n[[movement]]\nname = \"s3.l\"\nfrom = \"s3\"\nto = \"w2\"\nshare = 30\nflow = 40\n[[movement]]\nname = \"s3.r\"\nfrom = \"s3\"\nto = \"out\"\nshare = 30\nflow = 40\n[[junction]]\nname = \"j1\"\nstages = [[\"e1.t\", \"e1.r\", \"w1.t\", \"w1.r\"], [\"e1.l\", \"w1.l\"], [\"n1.t\", \"n1.r\", \"s1.t\", \"s1.r\"], [\"n1.l\", \"s1.l\"]]\n[[junction]]\nname = \"j2\"\nstages = [[\"e2.t\", \"e2.r\", \"w2.t\", \"w2.r\"], [\"e2.l\", \"w2.l\"], [\"n2.t\", \"n2.r\", \"s2.t\", \"s2.r\"], [\"n2.l\", \"s2.l\"]]\n[[junction]]\nname = \"j3\"\nstages = [[\"e3.t\", \"e3.r\", \"w3.t\", \"w3.r\"], [\"e3.l\", \"w3.l\"], [\"n3.t\", \"n3.r\", \"s3.t\", \"s3.r\"], [\"n3.l\", \"s3.l\"]]\n";
 
+const AT_FIVE: &str =
+    "version = 1\nshares = 1\nper = 4\n[[link]]\nname = \"a\"\nburst = 2\nrate = 5\n[[link]]\nname = \"b\"\nburst = 2\nrate = 5\n[[movement]]\nname = \"ao\"\nfrom = \"a\"\nto = \"out\"\nshare = 1\nflow = 2\n[[movement]]\nname = \"bo\"\nfrom = \"b\"\nto = \"out\"\nshare = 1\nflow = 2\n[[junction]]\nname = \"j\"\nstages = [[\"ao\"], [\"bo\"]]\n";
+
+const AT_FOUR: &str =
+    "version = 1\nshares = 1\nper = 4\n[[link]]\nname = \"a\"\nburst = 2\nrate = 4\n[[link]]\nname = \"b\"\nburst = 2\nrate = 4\n[[movement]]\nname = \"ao\"\nfrom = \"a\"\nto = \"out\"\nshare = 1\nflow = 2\n[[movement]]\nname = \"bo\"\nfrom = \"b\"\nto = \"out\"\nshare = 1\nflow = 2\n[[junction]]\nname = \"j\"\nstages = [[\"ao\"], [\"bo\"]]\n";
+
+// A ring of forty links, and a chain of twelve.
+const RING: &str =
+    "version = 1\nshares = 1000\nper = 1\n[[link]]\nname = \"r1\"\nburst = 1\nrate = 1\n[[link]]\nname = \"r2\"\n[[link]]\nname = \"r3\"\n[[link]]\nname = \"r4\"\n[[link]]\nname = \"r5\"\n[[link]]\nname = \"r6\"\n[[link]]\nname = \"r7\"\n[[link]]\nname = \"r8\"\n[[link]]\nname = \"r9\"\n[[link]]\nname = \"r10\"\n[[link]]\nname = \"r11\"\n[[link]]\nname = \"r12\"\n[[link]]\nname = \"r13\"\n[[link]]\nname = \"r14\"\n[[link]]\nname = \"r15\"\n[[link]]\nname = \"r16\"\n[[link]]\nname = \"r17\"\n[[link]]\nname = \"r18\"\n[[link]]\nname = \"r19\"\n[[link]]\nname = \"r20\"\n[[link]]\nname = \"r21\"\n[[link]]\nname = \"r22\"\n[[link]]\nname = \"r23\"\n[[link]]\nname = \"r24\"\n[[link]]\nname = \"r25\"\n[[link]]\nname = \"r26\"\n[[link]]\nname = \"r27\"\n[[link]]\nname = \"r28\"\n[[link]]\nname = \"r29\"\n[[link]]\nname = \"r30\"\n[[link]]\nname = \"r31\"\n[[link]]\nname = \"r32\"\n[[link]]\nname = \"r33\"\n[[link]]\nname = \"r34\"\n[[link]]\nname = \"r35\"\n[[link]]\nname = \"r36\"\n[[link]]\nname = \"r37\"\n[[link]]\nname = \"r38\"\n[[link]]\nname = \"r39\"\n[[link]]\nname = \"r40\"\n[[movement]]\nname = \"r1n\"\nfrom = \"r1\"\nto = \"r2\"\nshare = 999\nflow = 1000\n[[movement]]\nname = \"r1x\"\nfrom = \"r1\"\nto = \"out\"\nshare = 1\nflow = 1000\n[[movement]]\nname = \"r2n\"\nfrom = \"r2\"\nto = \"r3\"\nshare = 999\nflow = 1000\n[[movement]]\nname = \"r2x\"\nfrom = \"r2\"\nto = \"out\"\nshare = 1\nflow = 1000\n[[movement]]\nname = \"r3n\"\nfrom = \"r3\"\nto = \"r4\"\nshare = 999\nflow = 1000\n[[movement]]\nname = \"r3x\"\nfrom = \"r3\"\nto = \"out\"\nshare = 1\nflow = 1000\n[[movement]]\nname = \"r4n\"\nfrom = \"r4\"\nto = \"r5\"\nshare = 999\nflow = 1000\n[[movement]]\nname = \"r4x\"\nfrom = \"r4\"\nto = \"out\"\nshare = 1\nflow = 1000\n[[movement]]\nname = \"r5n\"\nfrom = \"r5\"\nto = \"r6\"\nshare = 999\nflow = 1000\n[[movement]]\nname = \"r5x\"\nfrom = \"r5\"\nto = \"out\"\nshare = 1\nflow = 1000\n[[movement]]\nname = \"r6n\"\nfrom = \"r6\"\nto = \"r7\"\nshare = 999\nflow = 1000\n[[movement]]\nname = \"r6x\"\nfrom = \"r6\"\nto = \"out\"\nshare = 1\nflow = 1000\n[[movement]]\nname = \"r7n\"\nfrom = \"r7\"\nto = \"r8\"\nshare = 999\nflow = 1000\n[[movement]]\nname = \"r7x\"\nfrom = \"r7\"\nto = \"out\"\nshare = 1\nflow = 1000\n[[movement]]\nname = \"r8n\"\nfrom = \"r8\"\nto = \"r9\"\nshare = 999\nflow = 1000\n[[movement]]\nname = \"r8x\"\nfrom = \"r8\"\nto = \"out\"\nshare = 1\nflow = 1000\n[[movement]]\nname = \"r9n\"\nfrom = \"r9\"\nto = \"r10\"\nshare = 999\nflow = 1000\n[[movement]]\nname = \"r9x\"\nfrom = \"r9\"\nto = \"out\"\nshare = 1\nflow = 1000\n[[movement]]\nname = \"r10n\"\nfrom = \"r10\"\nto = \"r11\"\nshare = 999\nflow = 1000\n[[movement]]\nname = \"r10x\"\nfrom = \"r10\"\nto = \"out\"\nshare = 1\nflow = 1000\n[[movement]]\nname = \"r11n\"\nfrom = \"r11\"\nto = \"r12\"\nshare = 999\nflow = 1000\n[[movement]]\nname = \"r11x\"\nfrom = \"r11\"\nto = \"out\"\nshare = 1\nflow = 1000\n[[movement]]\nname = \"r12n\"\nfrom = \"r12\"\nto = \"r13\"\nshare = 999\nflow = 1000\n[[movement]]\nname = \"r12x\"\nfrom = \"r12\"\nto = \"out\"\nshare = 1\nflow = 1000\n[[movement]]\nname = \"r13n\"\nfrom = \"r13\"\nto = \"r14\"\nshare = 999\nflow = 1000\n[[movement]]\nname = \"r13x\"\nfrom = \"r13\"\nto = \"out\"\nshare = 1\nflow = 1000\n[[movement]]\nname = \"r14n\"\nfrom = \"r14\"\nto = \"r15\"\nshare = 999\nflow = 1000\n[[movement]]\nname = \"r14x\"\nfrom = \"r14\"\nto = \"out\"\nshare = 1\nflow = 1000\n[[movement]]\nname = \"r15n\"\nfrom = \"r15\"\nto = \"r16\"\nshare = 999\nflow = 1000\n[[movement]]\nname = \"r15x\"\nfrom = \"r15\"\nto = \"out\"\nshare = 1\nflow = 1000\n[[movement]]\nname = \"r16n\"\nfrom = \"r16\"\nto = \"r17\"\nshare = 999\nflow = 1000\n[[movement]]\nname = \"r16x\"\nfrom = \"r16\"\nto = \"out\"\nshare = 1\nflow = 1000\n[[movement]]\nname = \"r17n\"\nfrom = \"r17\"\nto = \"r18\"\nshare = 999\nflow = 1000\n[[movement]]\nname = \"r17x\"\nfrom = \"r17\"\nto = \"out\"\nshare = 1\nflow = 1000\n[[movement]]\nname = \"r18n\"\nfrom = \"r18\"\nto = \"r19\"\nshare = 999\nflow = 1000\n[[movement]]\nname = \"r18x\"\nfrom = \"r18\"\nto = \"out\"\nshare = 1\nflow = 1000\n[[movement]]\nname = \"r19n\"\nfrom = \"r19\"\nto = \"r20\"\nshare = 999\nflow = 1000\n[[movement]]\nname = \"r19x\"\nfrom = \"r19\"\nto = \"out\"\nshare = 1\nflow = 1000\n[[movement]]\nname = \"r20n\"\nfrom = \"r20\"\nto = \"r21\"\nshare = 999\nflow = 1000\n[[movement]]\nname = \"r20x\"\nfrom = \"r20\"\nto = \"out\"\nshare = 1\nflow = 1000\n[[movement]]\nname = \"r21n\"\nfrom = \"r21\"\nto = \"r22\"\nshare = 999\nflow = 1000\n[[movement]]\nname = \"r21x\"\nfrom = \"r21\"\nto = \"out\"\nshare = 1\nflow = 1000\n[[movement]]\nname = \"r22n\"\nfrom = \"r22\"\nto = \"r23\"\nshare = 999\nflow = 1000\n[[movement]]\nname = \"r22x\"\nfrom = \"r22\"\nto = \"out\"\nshare = 1\nflow = 1000\n[[movement]]\nname = \"r23n\"\nfrom = \"r23\"\nto = \"r24\"\nshare = 999\nflow = 1000\n[[movement]]\nname = \"r23x\"\nfrom = \"r23\"\nto = \"out\"\nshare = 1\nflow = 1000\n[[movement]]\nname = \"r24n\"\nfrom = \"r24\"\nto = \"r25\"\nshare = 999\nflow = 1000\n[[movement]]\nname = \"r24x\"\nfrom = \"r24\"\nto = \"out\"\nshare = 1\nflow = 1000\n[[movement]]\nname = \"r25n\"\nfrom = \"r25\"\nto = \"r26\"\nshare = 999\nflow = 1000\n[[movement]]\nname = \"r25x\"\nfrom = \"r25\"\nto = \"out\"\nshare = 1\nflow = 1000\n[[movement]]\nname = \"r26n\"\nfrom = \"r26\"\nto = \"r27\"\nshare = 999\nflow = 1000\n[[movement]]\nname = \"r26x\"\nfrom = \"r26\"\nto = \"out\"\nshare = 1\nflow = 1000\n[[movement]]\nname = \"r27n\"\nfrom = \"r27\"\nto = \"r28\"\nshare = 999\nflow = 1000\n[[movement]]\nname = \"r27x\"\nfrom = \"r27\"\nto = \"out\"\nshare = 1\nflow = 1000\n[[movement]]\nname = \"r28n\"\nfrom = \"r28\"\nto = \"r29\"\nshare = 999\nflow = 1000\n[[movement]]\nname = \"r28x\"\nfrom = \"r28\"\nto = \"out\"\nshare = 1\nflow = 1000\n[[movement]]\nname = \"r29n\"\nfrom = \"r29\"\nto = \"r30\"\nshare = 999\nflow = 1000\n[[movement]]\nname = \"r29x\"\nfrom = \"r29\"\nto = \"out\"\nshare = 1\nflow = 1000\n[[movement]]\nname = \"r30n\"\nfrom = \"r30\"\nto = \"r31\"\nshare = 999\nflow = 1000\n[[movement]]\nname = \"r30x\"\nfrom = \"r30\"\nto = \"out\"\nshare = 1\nflow = 1000\n[[movement]]\nname = \"r31n\"\nfrom = \"r31\"\nto = \"r32\"\nshare = 999\nflow = 1000\n[[movement]]\nname = \"r31x\"\nfrom = \"r31\"\nto = \"out\"\nshare = 1\nflow = 1000\n[[movement]]\nname = \"r32n\"\nfrom = \"r32\"\nto = \"r33\"\nshare = 999\nflow = 1000\n[[movement]]\nname = \"r32x\"\nfrom = \"r32\"\nto = \"out\"\nshare = 1\nflow = 1000\n[[movement]]\nname = \"r33n\"\nfrom = \"r33\"\nto = \"r34\"\nshare = 999\nflow = 1000\n[[movement]]\nname = \"r33x\"\nfrom = \"r33\"\nto = \"out\"\nshare = 1\nflow = 1000\n[[movement]]\nname = \"r34n\"\nfrom = \"r34\"\nto = \"r35\"\nshare = 999\nflow = 1000\n[[movement]]\nname = \"r34x\"\nfrom = \"r34\"\nto = \"out\"\nshare = 1\nflow = 1000\n[[movement]]\nname = \"r35n\"\nfrom = \"r35\"\nto = \"r36\"\nshare = 999\nflow = 1000\n[[movement]]\nname = \"r35x\"\nfrom = \"r35\"\nto = \"out\"\nshare = 1\nflow = 1000\n[[movement]]\nname = \"r36n\"\nfrom = \"r36\"\nto = \"r37\"\nshare = 999\nflow = 1000\n[[movement]]\nname = \"r36x\"\nfrom = \"r36\"\nto = \"out\"\nshare = 1\nflow = 1000\n[[movement]]\nname = \"r37n\"\nfrom = \"r37\"\nto = \"r38\"\nshare = 999\nflow = 1000\n[[movement]]\nname = \"r37x\"\nfrom = \"r37\"\nto = \"out\"\nshare = 1\nflow = 1000\n[[movement]]\nname = \"r38n\"\nfrom = \"r38\"\nto = \"r39\"\nshare = 999\nflow = 1000\n[[movement]]\nname = \"r38x\"\nfrom = \"r38\"\nto = \"out\"\nshare = 1\nflow = 1000\n[[movement]]\nname = \"r39n\"\nfrom = \"r39\"\nto = \"r40\"\nshare = 999\nflow = 1000\n[[movement]]\nname = \"r39x\"\nfrom = \"r39\"\nto = \"out\"\nshare = 1\nflow = 1000\n[[movement]]\nname = \"r40n\"\nfrom = \"r40\"\nto = \"r1\"\nshare = 999\nflow = 1000\n[[movement]]\nname = \"r40x\"\nfrom = \"r40\"\nto = \"out\"\nshare = 1\nflow = 1000\n[[junction]]\nname = \"j1\"\nstages = [[\"r1n\", \"r1x\"]]\n[[junction]]\nname = \"j2\"\nstages = [[\"r2n\", \"r2x\"]]\n[[junction]]\nname = \"j3\"\nstages = [[\"r3n\", \"r3x\"]]\n[[junction]]\nname = \"j4\"\nstages = [[\"r4n\", \"r4x\"]]\n[[junction]]\nname = \"j5\"\nstages = [[\"r5n\", \"r5x\"]]\n[[junction]]\nname = \"j6\"\nstages = [[\"r6n\", \"r6x\"]]\n[[junction]]\nname = \"j7\"\nstages = [[\"r7n\", \"r7x\"]]\n[[junction]]\nname = \"j8\"\nstages = [[\"r8n\", \"r8x\"]]\n[[junction]]\nname = \"j9\"\nstages = [[\"r9n\", \"r9x\"]]\n[[junction]]\nname = \"j10\"\nstages = [[\"r10n\", \"r10x\"]]\n[[junction]]\nname = \"j11\"\nstages = [[\"r11n\", \"r11x\"]]\n[[junction]]\nname = \"j12\"\nstages = [[\"r12n\", \"r12x\"]]\n[[junction]]\nname = \"j13\"\nstages = [[\"r13n\", \"r13x\"]]\n[[junction]]\nname = \"j14\"\nstages = [[\"r14n\", \"r14x\"]]\n[[junction]]\nname = \"j15\"\nstages = [[\"r15n\", \"r15x\"]]\n[[junction]]\nname = \"j16\"\nstages = [[\"r16n\", \"r16x\"]]\n[[junction]]\nname = \"j17\"\nstages = [[\"r17n\", \"r17x\"]]\n[[junction]]\nname = \"j18\"\nstages = [[\"r18n\", \"r18x\"]]\n[[junction]]\nname = \"j19\"\nstages = [[\"r19n\", \"r19x\"]]\n[[junction]]\nname = \"j20\"\nstages = [[\"r20n\", \"r20x\"]]\n[[junction]]\nname = \"j21\"\nstages = [[\"r21n\", \"r21x\"]]\n[[junction]]\nname = \"j22\"\nstages = [[\"r22n\", \"r22x\"]]\n[[junction]]\nname = \"j23\"\nstages = [[\"r23n\", \"r23x\"]]\n[[junction]]\nname = \"j24\"\nstages = [[\"r24n\", \"r24x\"]]\n[[junction]]\nname = \"j25\"\nstages = [[\"r25n\", \"r25x\"]]\n[[junction]]\nname = \"j26\"\nstages = [[\"r26n\", \"r26x\"]]\n[[junction]]\nname = \"j27\"\nstages = [[\"r27n\", \"r27x\"]]\n[[junction]]\nname = \"j28\"\nstages = [[\"r28n\", \"r28x\"]]\n[[junction]]\nname = \"j29\"\nstages = [[\"r29n\", \"r29x\"]]\n[[junction]]\nname = \"j30\"\nstages = [[\"r30n\", \"r30x\"]]\n[[junction]]\nname = \"j31\"\nstages = [[\"r31n\", \"r31x\"]]\n[[junction]]\nname = \"j32\"\nstages = [[\"r32n\", \"r32x\"]]\n[[junction]]\nname = \"j33\"\nstages = [[\"r33n\", \"r33x\"]]\n[[junction]]\nname = \"j34\"\nstages = [[\"r34n\", \"r34x\"]]\n[[junction]]\nname = \"j35\"\nstages = [[\"r35n\", \"r35x\"]]\n[[junction]]\nname = \"j36\"\nstages = [[\"r36n\", \"r36x\"]]\n[[junction]]\nname = \"j37\"\nstages = [[\"r37n\", \"r37x\"]]\n[[junction]]\nname = \"j38\"\nstages = [[\"r38n\", \"r38x\"]]\n[[junction]]\nname = \"j39\"\nstages = [[\"r39n\", \"r39x\"]]\n[[junction]]\nname = \"j40\"\nstages = [[\"r40n\", \"r40x\"]]\n";
+
+const CHAIN: &str =
+    "version = 1\nshares = 1000\nper = 1\n[[link]]\nname = \"r1\"\nburst = 1\nrate = 1\n[[link]]\nname = \"r2\"\n[[link]]\nname = \"r3\"\n[[link]]\nname = \"r4\"\n[[link]]\nname = \"r5\"\n[[link]]\nname = \"r6\"\n[[link]]\nname = \"r7\"\n[[link]]\nname = \"r8\"\n[[link]]\nname = \"r9\"\n[[link]]\nname = \"r10\"\n[[link]]\nname = \"r11\"\n[[link]]\nname = \"r12\"\n[[movement]]\nname = \"r1n\"\nfrom = \"r1\"\nto = \"r2\"\nshare = 999\nflow = 1000\n[[movement]]\nname = \"r1x\"\nfrom = \"r1\"\nto = \"out\"\nshare = 1\nflow = 1000\n[[movement]]\nname = \"r2n\"\nfrom = \"r2\"\nto = \"r3\"\nshare = 999\nflow = 1000\n[[movement]]\nname = \"r2x\"\nfrom = \"r2\"\nto = \"out\"\nshare = 1\nflow = 1000\n[[movement]]\nname = \"r3n\"\nfrom = \"r3\"\nto = \"r4\"\nshare = 999\nflow = 1000\n[[movement]]\nname = \"r3x\"\nfrom = \"r3\"\nto = \"out\"\nshare = 1\nflow = 1000\n[[movement]]\nname = \"r4n\"\nfrom = \"r4\"\nto = \"r5\"\nshare = 999\nflow = 1000\n[[movement]]\nname = \"r4x\"\nfrom = \"r4\"\nto = \"out\"\nshare = 1\nflow = 1000\n[[movement]]\nname = \"r5n\"\nfrom = \"r5\"\nto = \"r6\"\nshare = 999\nflow = 1000\n[[movement]]\nname = \"r5x\"\nfrom = \"r5\"\nto = \"out\"\nshare = 1\nflow = 1000\n[[movement]]\nname = \"r6n\"\nfrom = \"r6\"\nto = \"r7\"\nshare = 999\nflow = 1000\n[[movement]]\nname = \"r6x\"\nfrom = \"r6\"\nto = \"out\"\nshare = 1\nflow = 1000\n[[movement]]\nname = \"r7n\"\nfrom = \"r7\"\nto = \"r8\"\nshare = 999\nflow = 1000\n[[movement]]\nname = \"r7x\"\nfrom = \"r7\"\nto = \"out\"\nshare = 1\nflow = 1000\n[[movement]]\nname = \"r8n\"\nfrom = \"r8\"\nto = \"r9\"\nshare = 999\nflow = 1000\n[[movement]]\nname = \"r8x\"\nfrom = \"r8\"\nto = \"out\"\nshare = 1\nflow = 1000\n[[movement]]\nname = \"r9n\"\nfrom = \"r9\"\nto = \"r10\"\nshare = 999\nflow = 1000\n[[movement]]\nname = \"r9x\"\nfrom = \"r9\"\nto = \"out\"\nshare = 1\nflow = 1000\n[[movement]]\nname = \"r10n\"\nfrom = \"r10\"\nto = \"r11\"\nshare = 999\nflow = 1000\n[[movement]]\nname = \"r10x\"\nfrom = \"r10\"\nto = \"out\"\nshare = 1\nflow = 1000\n[[movement]]\nname = \"r11n\"\nfrom = \"r11\"\nto = \"r12\"\nshare = 999\nflow = 1000\n[[movement]]\nname = \"r11x\"\nfrom = \"r11\"\nto = \"out\"\nshare = 1\nflow = 1000\n[[movement]]\nname = \"r12n\"\nfrom = \"r12\"\nto = \"out\"\nshare = 999\nflow = 1000\n[[movement]]\nname = \"r12x\"\nfrom = \"r12\"\nto = \"out\"\nshare = 1\nflow = 1000\n[[junction]]\nname = \"j1\"\nstages = [[\"r1n\", \"r1x\"]]\n[[junction]]\nname = \"j2\"\nstages = [[\"r2n\", \"r2x\"]]\n[[junction]]\nname = \"j3\"\nstages = [[\"r3n\", \"r3x\"]]\n[[junction]]\nname = \"j4\"\nstages = [[\"r4n\", \"r4x\"]]\n[[junction]]\nname = \"j5\"\nstages = [[\"r5n\", \"r5x\"]]\n[[junction]]\nname = \"j6\"\nstages = [[\"r6n\", \"r6x\"]]\n[[junction]]\nname = \"j7\"\nstages = [[\"r7n\", \"r7x\"]]\n[[junction]]\nname = \"j8\"\nstages = [[\"r8n\", \"r8x\"]]\n[[junction]]\nname = \"j9\"\nstages = [[\"r9n\", \"r9x\"]]\n[[junction]]\nname = \"j10\"\nstages = [[\"r10n\", \"r10x\"]]\n[[junction]]\nname = \"j11\"\nstages = [[\"r11n\", \"r11x\"]]\n[[junction]]\nname = \"j12\"\nstages = [[\"r12n\", \"r12x\"]]\n";
+
 /// What is handed to the top call: the words, the stream with the size of its pieces, and the calls that
 /// fail outside.
 #[derive(Drop)]
@@ -72,6 +85,27 @@ fn store(alloc: Global, fails: &[u64]) -> Result<MemStore, Fail> {
         ("loop", LOOP),
         ("no-exit", NO_EXIT),
         ("corridor", CORRIDOR),
+        ("at-five", AT_FIVE),
+        ("at-four", AT_FOUR),
+        ("ring", RING),
+        ("chain", CHAIN),
+        ("cert", CERT),
+        ("mass", "certificate 1\nd 4\ne 3\nh 4 4\nmix 1 1 3 2\n"),
+        ("excess", "certificate 1\nd 4\ne 0\nh 4 4\nmix 1 1 2 2\n"),
+        ("balance", "certificate 1\nd 4\ne 3\nh 3 4\nmix 1 1 2 2\n"),
+        ("zero-led", "certificate 1\nd 04\ne 3\nh 4 4\nmix 1 1 2 2\n"),
+        ("short", "certificate 1\nd 4\ne 3\nh 4 4\n"),
+        (
+            "great",
+            "certificate 1\nd 100000000000000000000000000000000000000\ne 1\nh 100000000000000000000000000000000000000 100000000000000000000000000000000000000\nmix 1 1 50000000000000000000000000000000000000 50000000000000000000000000000000000000\n",
+        ),
+        ("ones", "vector 1\np 1 1\n"),
+        ("zeros", "vector 1\np 0 0\n"),
+        (
+            "greats",
+            "vector 1\np 100000000000000000000000000000000000000 100000000000000000000000000000000000000\n",
+        ),
+        ("signed", "vector 1\np 1 -1\n"),
     ] {
         let name = String::from_str(alloc, name)?;
         files.push((name, Vec::from_slice(alloc, text.as_bytes())?))?;
@@ -115,6 +149,8 @@ fn check(
     assert_eq!(rt; errors.bytes(), err.as_bytes());
     Ok(())
 }
+
+const CERT: &str = "certificate 1\nd 4\ne 3\nh 4 4\nmix 1 1 2 2\n";
 
 const FIRST: &str = "maxpressure 1\n";
 
@@ -393,4 +429,131 @@ fn shows_what_it_reads(rt: HostRuntime) -> Result<(), Fail> {
     assert_eq!(rt; second.bytes(), first.bytes());
     assert!(rt; first.bytes().len() > 100);
     Ok(())
+}
+
+// What the words write, where the stream is empty.
+#[derive(Clone, Copy)]
+struct Told {
+    words: &'static [&'static str],
+    status: u8,
+    out: &'static str,
+    err: &'static str,
+}
+
+// A command that does what was asked.
+fn done(words: &'static [&'static str], out: &'static str) -> Told {
+    Told {
+        words,
+        status: 0,
+        out,
+        err: "",
+    }
+}
+
+// A command that is refused.
+fn refused(words: &'static [&'static str], status: u8, err: &'static str) -> Told {
+    Told {
+        words,
+        status,
+        out: "",
+        err,
+    }
+}
+
+fn check_all(rt: &impl Abort, alloc: Global, table: &[Told]) -> Result<(), Fail> {
+    for told in table {
+        check(
+            rt,
+            alloc,
+            &call(told.words, b""),
+            told.status,
+            told.out,
+            told.err,
+        )?;
+    }
+    Ok(())
+}
+
+#[test]
+fn certifies_networks(rt: HostRuntime) -> Result<(), Fail> {
+    let tandem = "certificate 1\nd 4\ne 1\nh 3 4\nmix 1 1 3\nmix 2 1 4\n";
+    let round = "certificate 1\nd 8\ne 7\nh 16 16\nmix 1 1 8\n";
+    let overloaded = "network overloaded\nvector 1\np 1 1\n";
+    let critical = "network critical\nvector 1\np 1 1\n";
+    let table = [
+        done(&["certify", "two-links"], CERT),
+        done(&["certify", "tandem"], tandem),
+        done(&["certify", "loop"], round),
+        refused(&["certify", "at-five"], 4, overloaded),
+        refused(&["certify", "at-four"], 4, critical),
+        refused(&["certify", "ring"], 5, "overflow flow\n"),
+        refused(&["certify", "chain"], 5, "overflow game 1\n"),
+        refused(&["certify", "no-exit"], 3, "network N14 link 1\n"),
+        refused(&["certify"], 1, "words\n"),
+    ];
+    check_all(&rt, rt.alloc(), &table)
+}
+
+#[test]
+fn checks_certificates(rt: HostRuntime) -> Result<(), Fail> {
+    let table = [
+        done(
+            &["check", "two-links", "cert"],
+            "certificate ok slack 3/4\n",
+        ),
+        refused(
+            &["check", "two-links", "mass"],
+            4,
+            "certificate fails mass 1\n",
+        ),
+        refused(
+            &["check", "two-links", "excess"],
+            4,
+            "certificate fails e\n",
+        ),
+        refused(
+            &["check", "two-links", "balance"],
+            4,
+            "certificate fails balance 1\n",
+        ),
+        refused(
+            &["check", "two-links", "zero-led"],
+            3,
+            "certificate text line 2\n",
+        ),
+        refused(
+            &["check", "two-links", "short"],
+            3,
+            "certificate text line 5\n",
+        ),
+        refused(
+            &["check", "two-links", "great"],
+            5,
+            "overflow certificate\n",
+        ),
+        refused(&["check", "two-links", "gone"], 2, "store gone\n"),
+        refused(&["check", "gone", "cert"], 2, "store gone\n"),
+        refused(&["check", "no-exit", "gone"], 3, "network N14 link 1\n"),
+        refused(&["check", "two-links"], 1, "words\n"),
+    ];
+    check_all(&rt, rt.alloc(), &table)
+}
+
+#[test]
+fn refutes_networks(rt: HostRuntime) -> Result<(), Fail> {
+    let table = [
+        done(&["refute", "at-five", "ones"], "overloaded load 10 cap 8\n"),
+        done(&["refute", "at-four", "ones"], "tight load 8 cap 8\n"),
+        refused(&["refute", "two-links", "ones"], 4, "vector fails weak\n"),
+        refused(&["refute", "two-links", "zeros"], 4, "vector fails zero\n"),
+        refused(&["refute", "two-links", "greats"], 5, "overflow vector\n"),
+        refused(
+            &["refute", "two-links", "signed"],
+            3,
+            "vector text line 2\n",
+        ),
+        refused(&["refute", "two-links", "cert"], 3, "vector text line 1\n"),
+        refused(&["refute", "two-links", "gone"], 2, "store gone\n"),
+    ];
+    check_all(&rt, rt.alloc(), &table)
 }

@@ -1,7 +1,7 @@
 use Rattle.std.proofs.Common.{ap, sym, ◌∙◌}
 use Rattle.mp_netfile.specs.Meaning.{file_meaning}
 use Rattle.mp_cli.proofs.EndLemmas.{network_read, rule_read}
-use Rattle.mp_cli.proofs.program.open_net.Goals as goal
+use Rattle.mp_cli.proofs.opening.open_net.Goals as goal
 
 pub returns-in-Ok-read_net-clause-net : goal.returns-in-Ok-read_net-clause-net
 returns-in-Ok-read_net-clause-net g c =

@@ -1,0 +1,130 @@
+//! The files that the words name.
+ghost use Rattle.std.specs.Prelude.{◌≡◌, ◌≤◌, ℕ, List, Option, IfOk, IfErr, Err, length};
+ghost use Rattle.mp_edge.specs.Outside.{Rose, Tells, OfFile};
+ghost use Rattle.mp_model.specs.Certificate.{HasLengths};
+ghost use Rattle.mp_cert.specs.TextMeaning.{AreNatural, IsNatural};
+ghost use Rattle.mp_cert.specs.Views.{cert_of};
+ghost use Rattle.mp_cli.specs.Ends.{OfNetwork, Acts};
+ghost use Rattle.mp_cli.specs.Opening.{IsRefusal, IsUnread};
+ghost use Rattle.mp_cli.specs.Others.{OfCert, OfVector};
+
+use crate::command::Command;
+use crate::outcome::{FileRole, Outcome, TextKind};
+use mp_cert::{Against, Cert, TextFault, read_against, read_cert};
+use mp_edge::{Store, StoreFault};
+use mp_net::{Net, NetFault, NetRule, Section, Spot};
+use mp_netfile::read_net;
+use std::alloc::Global;
+
+/// The greatest length of a file.
+const MOST_BYTES: usize = 1_048_576;
+
+/// Reads the network of the file.
+pub fn open_net<St: Store>(alloc: Global, name: &str, store: &mut St) -> Result<Net, Outcome>
+    ensures net { IfOk result (λ net. OfNetwork (St.files store.old) name.now (λ n. n ≡ net)) }
+    ensures refused { IfErr result (λ outcome. IsRefusal outcome (St.files store.old) name.now) }
+    ensures later { St.faults store.old ≤ St.faults store.new }
+    ensures same { Tells (St.files store.old) (St.files store.new) (λ was now. now ≡ was) }
+    ensures store { (file : FileRole) → result ≡ Err (Outcome.Store file) → Rose (St.faults store.old) (St.faults store.new) }
+{
+    let mut bytes = Vec::new(alloc);
+    match store.read(alloc, name, &mut bytes, MOST_BYTES) {
+        Ok(()) => {}
+        Err(StoreFault::TooLong) => {
+            return Err(Outcome::Network {
+                rule: NetRule::TooLong,
+                spot: Spot {
+                    section: Section::Top,
+                    number: 0,
+                },
+            });
+        }
+        Err(StoreFault::Failed) => return Err(Outcome::Store(FileRole::Net)),
+        Err(StoreFault::NoMemory) => return Err(Outcome::NoMemory),
+    }
+    match read_net(alloc, &bytes) {
+        Ok(net) => Ok(net),
+        Err(NetFault::Rule { rule, spot }) => Err(Outcome::Network { rule, spot }),
+        Err(NetFault::NoMemory) => Err(Outcome::NoMemory),
+    }
+}
+
+// Reads the bytes of the other file.
+fn read_other<St: Store>(
+    alloc: Global,
+    name: &str,
+    kind: TextKind,
+    store: &mut St,
+) -> Result<Vec<u8>, Outcome>
+    ensures ok { IfOk result (λ bytes. OfFile (St.files store.old) name.now (λ b. (bytes.items ≡ b) × (length b ≤ 1048576))) }
+    ensures refused { IfErr result (λ outcome. IsUnread outcome kind (St.files store.old) name.now) }
+    ensures later { St.faults store.old ≤ St.faults store.new }
+    ensures store { (file : FileRole) → result ≡ Err (Outcome.Store file) → Rose (St.faults store.old) (St.faults store.new) }
+    ensures quiet { ¬ (result ≡ Err Outcome.Write) }
+{
+    let mut bytes = Vec::new(alloc);
+    match store.read(alloc, name, &mut bytes, MOST_BYTES) {
+        Ok(()) => Ok(bytes),
+        Err(StoreFault::TooLong) => Err(Outcome::LongText(kind)),
+        Err(StoreFault::Failed) => Err(Outcome::Store(FileRole::Other)),
+        Err(StoreFault::NoMemory) => Err(Outcome::NoMemory),
+    }
+}
+
+/// Reads the certificate of the other file.
+pub fn open_cert<St: Store>(
+    alloc: Global,
+    net: &Net,
+    name: &str,
+    store: &mut St,
+) -> Result<Cert, Outcome>
+    ensures ok { IfOk result (λ cert. OfCert net.now (St.files store.old) name.now (λ c. c ≡ cert_of cert)) }
+    ensures lengths { IfOk result (λ cert. HasLengths net.now (cert_of cert)) }
+    ensures natural { IfOk result (λ cert. IsNatural (cert_of cert)) }
+    ensures refused { IfErr result (λ outcome. (left was : Option (List ℕ)) → Acts outcome Command.Check net.now (St.files store.old) name.now left left was was) }
+    ensures later { St.faults store.old ≤ St.faults store.new }
+    ensures store { (file : FileRole) → result ≡ Err (Outcome.Store file) → Rose (St.faults store.old) (St.faults store.new) }
+    ensures quiet { ¬ (result ≡ Err Outcome.Write) }
+{
+    let bytes = match read_other(alloc, name, TextKind::Certificate, store) {
+        Ok(bytes) => bytes,
+        Err(outcome) => return Err(outcome),
+    };
+    match read_cert(alloc, net, &bytes) {
+        Ok(cert) => Ok(cert),
+        Err(TextFault::Line(line)) => Err(Outcome::Text {
+            kind: TextKind::Certificate,
+            line,
+        }),
+        Err(TextFault::NoMemory) => Err(Outcome::NoMemory),
+    }
+}
+
+/// Reads the vector of the other file.
+pub fn open_vector<St: Store>(
+    alloc: Global,
+    net: &Net,
+    name: &str,
+    store: &mut St,
+) -> Result<Against, Outcome>
+    ensures ok { IfOk result (λ against. OfVector net.now (St.files store.old) name.now (λ p. p ≡ against.p)) }
+    ensures lengths { IfOk result (λ against. length against.p ≡ length net.now.movements) }
+    ensures natural { IfOk result (λ against. AreNatural against.p) }
+    ensures refused { IfErr result (λ outcome. (left was : Option (List ℕ)) → Acts outcome Command.Refute net.now (St.files store.old) name.now left left was was) }
+    ensures later { St.faults store.old ≤ St.faults store.new }
+    ensures store { (file : FileRole) → result ≡ Err (Outcome.Store file) → Rose (St.faults store.old) (St.faults store.new) }
+    ensures quiet { ¬ (result ≡ Err Outcome.Write) }
+{
+    let bytes = match read_other(alloc, name, TextKind::Vector, store) {
+        Ok(bytes) => bytes,
+        Err(outcome) => return Err(outcome),
+    };
+    match read_against(alloc, net, &bytes) {
+        Ok(against) => Ok(against),
+        Err(TextFault::Line(line)) => Err(Outcome::Text {
+            kind: TextKind::Vector,
+            line,
+        }),
+        Err(TextFault::NoMemory) => Err(Outcome::NoMemory),
+    }
+}
