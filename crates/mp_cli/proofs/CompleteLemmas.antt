@@ -1,12 +1,12 @@
 -- Where nothing is wrong outside, a command does what was asked, or memory was wanting.
-use Rattle.std.proofs.Common.{◌≡◌, ◌≤◌, ◌<◌, ◌⊎◌, ◌+◌, ◌*◌, ◌++◌, ◌∷◌, ℕ, ℤ, pos, List, [], length, map, sum_by, refl, sym, ◌∙◌, ap, subst, arith, Some, None, Ok, Err, inl, inr, ⊎_elim, IsSomeAnd}
+use Rattle.std.proofs.Common.{◌≡◌, ◌≤◌, ◌<◌, ◌⊎◌, ◌+◌, ◌*◌, ◌++◌, ◌∷◌, ℕ, ℤ, List, [], length, refl, sym, ◌∙◌, ap, subst, arith, Some, None, Ok, Err, inl, inr, ⊎_elim, IsSomeAnd}
 use Rattle.std.specs.declared.option.Option.{Option}
-use Rattle.std.specs.List.{All, AllByRecursion}
+use Rattle.std.specs.List.{AllByRecursion}
 use Rattle.std.proofs.lemmas.List.{append-nil, length-append}
 use Rattle.mp_edge.specs.Outside.{Tells, OfFile}
 use Rattle.mp_model.specs.Certificate.{Cert}
 use Rattle.mp_model.specs.Load.{IsVector, ShowsOverload, IsTight, load, capacity}
-use Rattle.mp_model.specs.Network.{Network, movement_numbers, entry}
+use Rattle.mp_model.specs.Network.{Network, entry}
 use Rattle.mp_model.specs.Stream.{LineKind}
 use Rattle.mp_model.specs.Stream.LineKind.{long_line, bad_line}
 use Rattle.mp_cert.specs.Checking.{check_outcome}

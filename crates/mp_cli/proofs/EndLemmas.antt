@@ -13,16 +13,17 @@ use Rattle.mp_net.specs.declared.fault.Section.TheVariants as section
 use Rattle.mp_net.specs.declared.fault.Spot.{Spot}
 use Rattle.mp_netfile.specs.Meaning.{file_meaning}
 use Rattle.mp_cli.specs.declared.command.Command.{Command}
-use Rattle.mp_cli.specs.declared.command.Command.TheVariants.{Run, Show}
+use Rattle.mp_cli.specs.declared.command.Command.TheVariants.{Run}
 use Rattle.mp_cli.specs.declared.outcome.FileRole.{FileRole}
 use Rattle.mp_cli.specs.declared.outcome.FileRole.TheVariants.{Net, Other}
 use Rattle.mp_cli.specs.declared.outcome.Outcome.{Outcome}
-use Rattle.mp_cli.specs.declared.outcome.Outcome.TheVariants.{Done, Words, Store, Network as BadNetwork, Long, Grammar, LineLimit, Read, Write, NoMemory}
-use Rattle.mp_cli.specs.Others.{Files}
+use Rattle.mp_cli.specs.declared.outcome.Outcome.TheVariants.{Done, Words, Store, Network as BadNetwork, Read, Write, NoMemory}
+use Rattle.mp_cli.specs.Others.{Files, HasOther}
 use Rattle.mp_cli.specs.Statuses.{status_of}
 use Rattle.mp_cli.specs.Messages.{message_of}
 use Rattle.mp_cli.specs.Ends.{head, OfNetwork, Acts, Means, Reports}
 use Rattle.mp_cli.specs.Opening.{IsRefusal}
+use Rattle.mp_cli.specs.Runs.{Runs}
 use Rattle.mp_run.specs.Running.{EndsAs}
 use Rattle.mp_run.specs.declared.run.RunEnd.{RunEnd}
 use Rattle.mp_run.specs.declared.run.RunEnd.TheVariants as end
@@ -113,3 +114,15 @@ ten_read outcome is = absurd (omega arith)
 pub eleven_write : (outcome : Outcome) → status_of outcome ≡ 11 → outcome ≡ Write
 eleven_write Write is = refl
 eleven_write outcome is = absurd (omega arith)
+
+-- only a command with another file may meet a fault of the store at it
+pub no_store : (outcome : Outcome) (command : Command) (net : Network) (files : Files) (other : List ℕ) (left rest was now : Option (List ℕ)) → (HasOther command → ⊥) → Acts outcome command net files other left rest was now → (file : FileRole) → outcome ≡ Store file → ⊥
+no_store (Store Net) command net files other left rest was now none is file e = is
+no_store (Store Other) command net files other left rest was now none is file e = none is.0
+no_store outcome command net files other left rest was now none is file e = (let no = e in cc)
+
+-- only a run reads the input
+pub no_read : (outcome : Outcome) (command : Command) (net : Network) (files : Files) (other : List ℕ) (left rest was now : Option (List ℕ)) → ((Ends : List ℕ → Type 0) → Runs command net files other Ends → ⊥) → Acts outcome command net files other left rest was now
+    → outcome ≡ Read → ⊥
+no_read Read command net files other left rest was now none is e = none _ is
+no_read outcome command net files other left rest was now none is e = (let no = e in cc)

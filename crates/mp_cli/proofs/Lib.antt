@@ -1,4 +1,5 @@
 pub mod CompleteLemmas
 pub mod EndLemmas
+pub mod MessageLemmas
 pub mod VectorLemmas
 pub mod RunLemmas

@@ -1,12 +1,22 @@
--- Vectors from their texts: their numbers, and whether all are 0.
-use Rattle.std.proofs.Common.{◌≡◌, ◌-◌, ℕ, zero, suc, ℤ, pos, List, [], ◌∷◌, length, map, sum_by, unsigned_abs, refl, ◌∙◌, ap}
-use Rattle.std.specs.Prelude.{slice_index}
+-- Vectors from their texts: their numbers, whether all are 0, and what their sums show.
+use Rattle.std.proofs.Common.{◌≡◌, ◌≤◌, ◌<◌, ◌-◌, ◌*◌, ℕ, zero, suc, ℤ, pos, negsuc, Bool, true, false, List, [], ◌∷◌, length, map, sum_by, codes, unsigned_abs, Ok, inl, inr, refl, sym, ◌∙◌, ap, subst, arith, if◌then◌else◌, ◌↔◌, IsTrue}
+use Rattle.std.specs.Prelude.{slice_index, int_lt}
 use Rattle.std.specs.List.{AllByRecursion}
-use Rattle.std.proofs.lemmas.List.Elements.{recursion_from_All}
+use Rattle.std.proofs.lemmas.Int.{ints}
+use Rattle.std.proofs.lemmas.List.{length-map}
+use Rattle.std.proofs.lemmas.List.Elements.{recursion_from_All, All-from_recursion}
+use Rattle.mp_edge.proofs.Told.{OfFile-weaker}
 use Rattle.mp_laws.proofs.Lists.{all_of}
-use Rattle.mp_laws.proofs.Sums.{sum_by-same_at, sum_by-zero}
+use Rattle.mp_laws.proofs.Sums.{sum_by-same_at, sum_by-zero, terms_le}
+use Rattle.mp_laws.proofs.Tied.{overload, tight}
+use Rattle.mp_press.proofs.Writes.{numbers_by_all}
+use Rattle.mp_model.specs.Load.{IsVector, ShowsOverload, IsTight, load, capacity}
 use Rattle.mp_model.specs.Network.{Network, movement_numbers, entry}
-use Rattle.mp_cli.specs.Others.{numbers, IsZero}
+use Rattle.mp_model.specs.NetworkRules.{IsNetwork}
+use Rattle.mp_cert.specs.TextMeaning.{vector_meaning}
+use Rattle.mp_cert.specs.declared.types.Weighed.{Weighed}
+use Rattle.mp_cli.specs.Outcomes.{word_of}
+use Rattle.mp_cli.specs.Others.{Files, OfVector, numbers, IsZero, IsWeak, IsRefuting, sums_line}
 
 at_place : (p : List ℤ) → AllByRecursion (λ n. n ≡ pos 0) p → (i : ℕ) → slice_index (numbers p) i ≡ 0
 at_place [] zeros i = refl
@@ -18,3 +28,88 @@ pub no_sum : (net : Network) (p : List ℤ) → IsZero p → sum_by (entry (numb
 no_sum net p zeros =
     sum_by-same_at (entry (numbers p)) (λ k. 0) (movement_numbers net)
     (all_of (λ k. entry (numbers p) k ≡ 0) (λ k. at_place p (recursion_from_All (λ n. n ≡ pos 0) p zeros) (k - 1)) (movement_numbers net)) ∙ sum_by-zero (movement_numbers net)
+
+all_map : (f : ℕ → ℕ) (most : ℕ) (ks : List ℕ) → AllByRecursion (λ k. f k ≤ most) ks → AllByRecursion (λ x. x ≤ most) (map f ks)
+all_map f most [] all = tt
+all_map f most (k ∷ ks) all = (all.0, all_map f most ks all.1)
+
+zeros_of : (p : List ℤ) → AllByRecursion (λ x. x ≤ 0) (numbers p) → AllByRecursion (λ n. n ≡ pos 0) p
+zeros_of [] all = tt
+zeros_of (pos zero ∷ p) all = (refl, zeros_of p all.1)
+zeros_of (pos (suc n) ∷ p) all = absurd (let h : suc n ≤ 0 = all.0 in omega (arith, h))
+zeros_of (negsuc n ∷ p) all = absurd (let h : suc n ≤ 0 = all.0 in omega (arith, h))
+
+-- numbers that sum to 0 are zeros
+zero_sum : (net : Network) (p : List ℤ) → length p ≡ length net.movements → sum_by (entry (numbers p)) (movement_numbers net) ≡ 0 → IsZero p
+zero_sum net p size none =
+    let ns = numbers p in
+    let parts : ns ≡ map (entry ns) (movement_numbers net) = numbers_by_all (entry ns) ns (length net.movements) (length-map p unsigned_abs ∙ size) (λ k low high. refl) in
+    let terms = subst (λ most. AllByRecursion (λ k. entry ns k ≤ most) (movement_numbers net)) none (terms_le (entry ns) (movement_numbers net)) in
+    All-from_recursion (λ n. n ≡ pos 0) p (zeros_of p (subst (λ (xs : List ℕ). AllByRecursion (λ x. x ≤ 0) xs) (sym parts) (all_map (entry ns) 0 (movement_numbers net) terms)))
+
+-- numbers of which not all are 0 are a vector against the network
+pub is_vector : (net : Network) (p : List ℤ) → length p ≡ length net.movements → (IsZero p → ⊥) → IsVector net (numbers p)
+is_vector net p size some =
+    record {
+      lengths = length-map p unsigned_abs ∙ size;
+      some = from (sum_by (entry (numbers p)) (movement_numbers net)) refl;
+    }
+  where
+    from : (total : ℕ) → sum_by (entry (numbers p)) (movement_numbers net) ≡ total → 1 ≤ total
+    from zero none = absurd (some (zero_sum net p size none))
+    from (suc n) is = omega arith
+
+-- a test that fails says what is not so
+pub not_zero : (b : Bool) (p q : List ℤ) → b ≡ false → (IsTrue b ↔ IsZero q) → q ≡ p → IsZero p → ⊥
+not_zero b p q fails tells same zeros = let no = tells.1 (subst IsZero (sym same) zeros) in (let wrong = sym no ∙ fails in cc)
+
+-- a fact of the vector that was read
+pub of_vector : (net : Network) (files : Files) (other : List ℕ) (p : List ℤ) (P : List ℤ → Type 0) → OfVector net files other (λ q. q ≡ p) → P p → OfVector net files other P
+of_vector net files other p P opened is =
+    OfFile-weaker files other (λ bytes. (q : List ℤ) × (vector_meaning net bytes ≡ Ok q) × (q ≡ p)) (λ bytes. (q : List ℤ) × (vector_meaning net bytes ≡ Ok q) × P q)
+    (λ bytes o. (o.0, o.1, subst P (sym o.2) is)) opened
+
+-- the sums of a vector
+abbrev brought : Network → List ℤ → ℕ
+brought net p = load net (entry (numbers p))
+
+abbrev served : Network → List ℤ → ℕ
+served net p = net.per * capacity net (entry (numbers p))
+
+below_from : (m n : ℕ) → int_lt (pos m) (pos n) ≡ true → m < n
+below_from m n is = grind (arith, ints)
+
+above_from : (m n : ℕ) → int_lt (pos m) (pos n) ≡ false → n ≤ m
+above_from m n is = grind (arith, ints)
+
+-- a vector whose load is below what is served is weak
+pub is_weak : (net : Network) (p : List ℤ) (sums : Weighed) → IsVector net (numbers p) → sums.load ≡ pos (brought net p) → sums.served ≡ pos (served net p) → int_lt sums.load sums.served ≡ true → IsWeak net p
+is_weak net p sums vector loads serves less =
+    record { vector = vector; below = below_from (brought net p) (served net p) (sym (ap (λ x. int_lt x sums.served) loads ∙ ap (λ y. int_lt (pos (brought net p)) y) serves) ∙ less) }
+
+line_is : (word : List ℕ) (net : Network) (p : List ℤ) (sums : Weighed) → word_of sums ≡ word → sums.load ≡ pos (brought net p) → sums.served ≡ pos (served net p)
+    → sums_line (word_of sums) (unsigned_abs sums.load) (unsigned_abs sums.served) ≡ sums_line word (brought net p) (served net p)
+line_is word net p sums named loads serves =
+    ap (λ w. sums_line w (unsigned_abs sums.load) (unsigned_abs sums.served)) named ∙ ap (λ x. sums_line word (unsigned_abs x) (unsigned_abs sums.served)) loads ∙ ap (λ y. sums_line word (brought net p) (unsigned_abs y)) serves
+
+-- a vector whose load is at least what is served speaks against the network, and is told as it does
+pub refuting : (net : Network) (p : List ℤ) (sums : Weighed) (IsWritten : List ℕ → Type 0) → IsNetwork net → IsVector net (numbers p) → sums.load ≡ pos (brought net p) → sums.served ≡ pos (served net p) → int_lt sums.load sums.served ≡ false
+    → IsWritten (sums_line (word_of sums) (unsigned_abs sums.load) (unsigned_abs sums.served)) → IsRefuting net (numbers p) IsWritten
+refuting net p sums IsWritten network vector loads serves most written = by (int_lt sums.served sums.load) refl
+  where
+    in_numbers : int_lt sums.served sums.load ≡ int_lt (pos (served net p)) (pos (brought net p))
+    in_numbers = ap (λ x. int_lt x sums.load) serves ∙ ap (λ y. int_lt (pos (served net p)) y) loads
+
+    at_least : served net p ≤ brought net p
+    at_least = above_from (brought net p) (served net p) (sym (ap (λ x. int_lt x sums.served) loads ∙ ap (λ y. int_lt (pos (brought net p)) y) serves) ∙ most)
+
+    by : (above : Bool) → int_lt sums.served sums.load ≡ above → IsRefuting net (numbers p) IsWritten
+    by true is =
+        let shows : ShowsOverload net (numbers p) = record { vector = vector; above = below_from (served net p) (brought net p) (sym in_numbers ∙ is) } in
+        let named : word_of sums ≡ codes "overloaded" = ap (λ (b : Bool). if b then codes "overloaded" else codes "tight") is in
+        inl (record { shows = shows; none = overload net network (numbers p, shows); written = subst IsWritten (line_is (codes "overloaded") net p sums named loads serves) written })
+    by false is =
+        let most_served : brought net p ≤ served net p = above_from (served net p) (brought net p) (sym in_numbers ∙ is) in
+        let even : IsTight net (numbers p) = record { vector = vector; equal = omega (arith, at_least, most_served) } in
+        let named : word_of sums ≡ codes "tight" = ap (λ (b : Bool). if b then codes "overloaded" else codes "tight") is in
+        inr (record { tight = even; none = tight net network (numbers p) even; written = subst IsWritten (line_is (codes "tight") net p sums named loads serves) written })

@@ -1,5 +1,5 @@
 -- The line on the error output of each outcome.
-use Rattle.std.specs.Prelude.{ℕ, List, [], ◌∷◌, ◌++◌, codes, decimal}
+use Rattle.std.specs.Prelude.{ℕ, Bool, true, false, List, [], ◌∷◌, ◌++◌, codes, decimal}
 use Rattle.mp_net.specs.declared.fault.NetRule.{NetRule}
 use Rattle.mp_net.specs.declared.fault.NetRule.TheVariants.{TooLong, BadToml, UnknownKey, MissingKey, BadVersion, BadNumber, BadName, Repeated, UnknownLink, BadShares, BadStage, Unserved, NoMovement, NoFedLink, NoWayOut}
 use Rattle.mp_net.specs.declared.fault.Section.{Section}
@@ -98,6 +98,11 @@ words_of end.Write = codes "write"
 words_of end.NoMemory = codes "memory"
 words_of end.Done = []
 words_of (end.Store file) = []
+
+-- An outcome is a fault of the store.
+abbrev pub is_store : Outcome → Bool
+is_store (end.Store file) = true
+is_store outcome = false
 
 -- Behind the line of a critical or overloaded network stands the vector that shows it.
 abbrev pub vector_behind : Outcome → List ℕ

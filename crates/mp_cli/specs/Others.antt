@@ -1,5 +1,5 @@
 -- What is said of the other file of a command: a certificate, or a vector against the network.
-use Rattle.std.specs.Prelude.{◌≡◌, ◌≤◌, ◌<◌, ◌⊎◌, ◌*◌, ◌++◌, ℕ, ℤ, List, length, map, codes, decimal, unsigned_abs, Option, Ok, Err, pos}
+use Rattle.std.specs.Prelude.{◌≡◌, ◌<◌, ◌⊎◌, ◌*◌, ◌++◌, ℕ, ℤ, List, map, codes, decimal, unsigned_abs, Option, Ok, Err, pos}
 use Rattle.std.specs.List.{All}
 use Rattle.mp_edge.specs.Outside.{OfFile}
 use Rattle.mp_model.specs.Certificate.{Cert, Certifies, Carries}

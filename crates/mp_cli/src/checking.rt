@@ -1,5 +1,5 @@
 //! The commands on certificates, and on vectors against the network.
-ghost use Rattle.std.specs.Prelude.{◌≡◌, ◌≤◌, ◌↔◌, ℕ, List, Option, IsTrue, length, unsigned_abs};
+ghost use Rattle.std.specs.Prelude.{◌≡◌, ◌≤◌, ◌↔◌, ℕ, List, Option, IsTrue, length, unsigned_abs, int_lt};
 ghost use Rattle.mp_edge.specs.Outside.{Rose, Tells, Puts, HasCause};
 ghost use Rattle.mp_cli.specs.Outcomes.{outcome_of_fault, word_of};
 ghost use Rattle.mp_cli.specs.Ends.{Acts};
@@ -78,12 +78,20 @@ fn is_zero(p: &[i128]) -> bool
     p.iter().all(|n| *n == 0)
 }
 
+// The load is below what is served.
+fn is_weak(sums: Weighed) -> bool
+    ensures { result ≡ int_lt sums.load sums.served }
+{
+    sums.load < sums.served
+}
+
 /// Finds the verdict on the network, and writes the certificate of the greatest slack.
 pub fn certify<Out: Sink>(alloc: Global, net: &Net, out: &mut Out) -> Outcome
     ensures acts { (files : Files) (other : List ℕ) (left : Option (List ℕ)) → Acts result Command.Certify net.now files other left left (Out.held out.old) (Out.held out.new) }
     ensures later { Out.faults out.old ≤ Out.faults out.new }
     ensures write { result ≡ Outcome.Write → Rose (Out.faults out.old) (Out.faults out.new) }
 {
+    // A network's share total comes with what its rules say.
     let _ = net.shares();
     match admit(alloc, net) {
         Ok(Verdict::Admitted { cert, .. }) => match print_cert(out, &cert) {
@@ -144,10 +152,12 @@ pub fn refute<St: Store, Out: Sink>(
     if is_zero(against.p.as_slice()) {
         return Outcome::ZeroVector;
     }
+    // A network's share total comes with what its rules say.
+    let _ = net.shares();
     let Ok(sums) = weigh(net, &against) else {
         return Outcome::Overflow(Place::Vector);
     };
-    if sums.load < sums.served {
+    if is_weak(sums) {
         return Outcome::WeakVector;
     }
     match put_verdict(out, sums) {

@@ -1,7 +1,7 @@
 //! The line on the error output.
 ghost use Rattle.std.specs.Prelude.{◌≡◌, ◌≤◌, ◌+◌, ◌++◌, ◌∷◌, [], length, codes, decimal};
 ghost use Rattle.mp_edge.specs.Outside.{Tells, Puts, HasCause};
-ghost use Rattle.mp_cli.specs.Messages.{rule_number, spot_text, kind_text, fault_text, place_text, message_of, words_of, vector_behind};
+ghost use Rattle.mp_cli.specs.Messages.{rule_number, spot_text, kind_text, fault_text, place_text, message_of, words_of, vector_behind, is_store};
 
 use crate::outcome::{Outcome, TextKind};
 use itoa::Integer;
@@ -69,7 +69,7 @@ fn push_kind(line: &mut LineSink, kind: TextKind)
 fn push_fault(line: &mut LineSink, fault: CertFault)
     requires { length line.old.held ≤ 200 }
     ensures held { line.new.held ≡ line.old.held ++ fault_text fault }
-    ensures few { length line.new.held ≤ length line.old.held + 100 }
+    ensures few { length line.new.held ≤ length line.old.held + 120 }
 {
     match fault {
         CertFault::D => push_text(line, b"d"),
@@ -91,7 +91,7 @@ fn push_fault(line: &mut LineSink, fault: CertFault)
 fn push_numbered<I: Integer>(line: &mut LineSink, word: &[u8], number: I)
     requires { (length line.old.held ≤ 300) × (length word.now ≤ 20) }
     ensures held { line.new.held ≡ line.old.held ++ (word.now ++ I.text number) }
-    ensures few { length line.new.held ≤ length line.old.held + 50 }
+    ensures few { length line.new.held ≤ length line.old.held + 60 }
 {
     push_text(line, word);
     push_number(line, number);
@@ -101,7 +101,7 @@ fn push_numbered<I: Integer>(line: &mut LineSink, word: &[u8], number: I)
 fn push_place(line: &mut LineSink, place: Place)
     requires { length line.old.held ≤ 200 }
     ensures held { line.new.held ≡ line.old.held ++ place_text place }
-    ensures few { length line.new.held ≤ length line.old.held + 50 }
+    ensures few { length line.new.held ≤ length line.old.held + 60 }
 {
     match place {
         Place::Flow => push_text(line, b"flow"),
@@ -184,6 +184,16 @@ fn push_message(line: &mut LineSink, outcome: &Outcome)
     }
 }
 
+// The outcome is a fault of the store.
+fn is_store(outcome: &Outcome) -> bool
+    ensures { result ≡ is_store outcome.now }
+{
+    match outcome {
+        Outcome::Store(_) => true,
+        _ => false,
+    }
+}
+
 // Puts the line of a fault of the store, which names the file.
 fn put_store<Er: Sink>(err: &mut Er, name: &str) -> Result<(), Failed>
     ensures bytes { Tells (Er.held err.old) (Er.held err.new) (Puts result (codes "store " ++ (name.now ++ 10 ∷ []))) }
@@ -212,7 +222,7 @@ pub fn put_message<Er: Sink>(err: &mut Er, outcome: &Outcome, name: &str) -> Res
     ensures bytes { Tells (Er.held err.old) (Er.held err.new) (Puts result (message_of name.now outcome.now)) }
     ensures cause { HasCause (Er.faults err.old) (Er.faults err.new) result }
 {
-    if let Outcome::Store(_) = outcome {
+    if is_store(outcome) {
         return put_store(err, name);
     }
     let mut line = LineSink::new();

@@ -60,6 +60,7 @@ fn read_other<St: Store>(
     ensures refused { IfErr result (λ outcome. IsUnread outcome kind (St.files store.old) name.now) }
     ensures later { St.faults store.old ≤ St.faults store.new }
     ensures store { (file : FileRole) → result ≡ Err (Outcome.Store file) → Rose (St.faults store.old) (St.faults store.new) }
+    ensures quiet { ¬ (result ≡ Err Outcome.Write) }
 {
     let mut bytes = Vec::new(alloc);
     match store.read(alloc, name, &mut bytes, MOST_BYTES) {
@@ -83,6 +84,7 @@ pub fn open_cert<St: Store>(
     ensures refused { IfErr result (λ outcome. (command : Command) → TakesCert command → (left was : Option (List ℕ)) → Acts outcome command net.now (St.files store.old) name.now left left was was) }
     ensures later { St.faults store.old ≤ St.faults store.new }
     ensures store { (file : FileRole) → result ≡ Err (Outcome.Store file) → Rose (St.faults store.old) (St.faults store.new) }
+    ensures quiet { ¬ (result ≡ Err Outcome.Write) }
 {
     let bytes = match read_other(alloc, name, TextKind::Certificate, store) {
         Ok(bytes) => bytes,
@@ -111,6 +113,7 @@ pub fn open_vector<St: Store>(
     ensures refused { IfErr result (λ outcome. (left was : Option (List ℕ)) → Acts outcome Command.Refute net.now (St.files store.old) name.now left left was was) }
     ensures later { St.faults store.old ≤ St.faults store.new }
     ensures store { (file : FileRole) → result ≡ Err (Outcome.Store file) → Rose (St.faults store.old) (St.faults store.new) }
+    ensures quiet { ¬ (result ≡ Err Outcome.Write) }
 {
     let bytes = match read_other(alloc, name, TextKind::Vector, store) {
         Ok(bytes) => bytes,

@@ -1,6 +1,6 @@
 //! Networks whose constants and bounds were computed apart from this program.
 use super::*;
-use mp_cert::{Cert, CertFault, Mix, Mixes};
+use mp_cert::{Cert, CertFault, Mix, Mixes, has_lengths};
 use mp_flow::{CalcFault, Place};
 use mp_net::{JunctionPart, LinkPart, MovementPart, Name, Net, NetParts, build};
 use mp_num::{Frac, Numbers};
@@ -309,8 +309,10 @@ fn keeps_the_bounds_of_a_fed_tandem(rt: HostRuntime) -> Result<(), Fail> {
     let alloc = rt.alloc();
     let net = tandem(&rt, alloc, 4, 3)?;
     let cert = tandem_cert(alloc, 8, 3, [5, 8])?;
+    assert!(rt; has_lengths(&net, &cert));
     let mut session = Session::open(alloc, &net, &cert).ok().ok_or("not opened")?;
     assert_eq!(rt; session.bounds(), [18i128, 20].as_slice());
+    assert_eq!(rt; session.net().fed().len(), 2);
     let first: [u64; 2] = [1, 3];
     assert_eq!(rt; session.period(&first), Ok(()));
     want_queues(&rt, &session, [1, 3]);
@@ -318,6 +320,8 @@ fn keeps_the_bounds_of_a_fed_tandem(rt: HostRuntime) -> Result<(), Fail> {
     assert_eq!(rt; session.period(&[0, 1]), Err(AboveAt { link: 2 }));
     want_queues(&rt, &session, [1, 3]);
     for queues in [[1, 2], [1, 1], [1, 0], [0, 1], [0, 0]] {
+        assert_eq!(rt; session.net().fed().len(), 2);
+        assert!(rt; session.state().period() < 9);
         assert_eq!(rt; session.period(&[0, 0]), Ok(()));
         want_queues(&rt, &session, queues);
     }
@@ -332,6 +336,7 @@ fn opens_with_what_holds_alone(rt: HostRuntime) -> Result<(), Fail> {
     let net = tandem(&rt, alloc, 2, 0)?;
     for (e, fault) in [(0, CertFault::E), (2, CertFault::Balance(1))] {
         let cert = tandem_cert(alloc, 4, e, [3, 4])?;
+        assert!(rt; has_lengths(&net, &cert));
         let met = Session::open(alloc, &net, &cert).err().ok_or("opened")?;
         assert_eq!(rt; met, OpenFault::Cert(fault));
     }
