@@ -21,7 +21,7 @@ use Rattle.mp_cli.specs.declared.outcome.Outcome.TheVariants.{Done, Words, Store
 use Rattle.mp_cli.specs.Others.{Files, HasOther}
 use Rattle.mp_cli.specs.Statuses.{status_of}
 use Rattle.mp_cli.specs.Messages.{message_of}
-use Rattle.mp_cli.specs.Ends.{head, OfNetwork, Acts, Means, Reports}
+use Rattle.mp_cli.specs.Ends.{OfNetwork, Acts, Means, Reports}
 use Rattle.mp_cli.specs.Opening.{IsRefusal}
 use Rattle.mp_cli.specs.Runs.{Runs}
 use Rattle.mp_run.specs.Running.{EndsAs}

@@ -2,6 +2,7 @@
 use Rattle.std.proofs.Common.{◌≡◌, ◌≢◌, ◌≤◌, ◌*◌, ℕ, ℤ, pos, List, refl, sym, ◌∙◌, ap, subst, arith, nat_abs, unsigned_abs, inl, inr, Ok, Err}
 use Rattle.std.specs.declared.option.Option.{Option}
 use Rattle.std.proofs.Math.Nat.{le_of_mul-le-mul_left}
+use Rattle.mp_edge.specs.Outside.{Tells, GainsPrefix}
 use Rattle.mp_edge.proofs.Told.{OfFile-weaker}
 use Rattle.mp_model.specs.Arrivals.{IsPermitted}
 use Rattle.mp_model.specs.Bounds.{AreBounds, HasRoom}
@@ -23,7 +24,11 @@ use Rattle.mp_cert.proofs.CheckLaw.{first_fault, complete}
 use Rattle.mp_verdict.specs.Laws.{IsAdmitted}
 use Rattle.mp_verdict.specs.Stated.{Reached}
 use Rattle.mp_verdict.specs.Verdict.{verdict, Admitted}
-use Rattle.mp_drift.specs.Session.{IsRefused}
+use Rattle.mp_drift.specs.Bounded.{excess, denominator}
+use Rattle.mp_drift.specs.Session.{IsRefused, Bounded, IsBounded}
+use Rattle.mp_press.specs.Queues.{naturals}
+use Rattle.mp_run.proofs.BoundLemmas.{naturals_are, stays_within}
+use Rattle.mp_run.proofs.ProgressLemmas.{head_cut}
 use Rattle.mp_drift.specs.declared.session.OpenFault.{OpenFault}
 use Rattle.mp_drift.specs.declared.session.OpenFault.TheVariants as opening
 use Rattle.mp_run.specs.Running.{StaysWithin, EndsAs}
@@ -140,3 +145,26 @@ run_so end.LineLimit net cert num den bounds stood left rest was now ends = runs
 run_so (end.Long n) net cert num den bounds stood left rest was now ends = runs_with net cert num den bounds stood _ ends
 run_so (end.Grammar n) net cert num den bounds stood left rest was now ends = runs_with net cert num den bounds stood _ ends
 run_so (end.Above n p l) net cert num den bounds stood left rest was now ends = runs_with net cert num den bounds stood _ ends
+
+-- what a session stands for behind its opening
+pub stood_of : (net : Network) (cert : Cert) (s : Bounded) → IsBounded s → s.net ≡ net → Certifies net cert → IsSlack cert (excess s.slack) (denominator s.slack) → Stood net cert (excess s.slack) (denominator s.slack) (naturals s.bounds)
+stood_of net cert s bounded same certifies slack =
+    let list : naturals s.bounds ≡ bounded.bounds.bounds = ap naturals bounded.bounds.listed ∙ naturals_are bounded.bounds.bounds in
+    let are = subst (λ (n : Network). AreBounds n (excess s.slack) (denominator s.slack) bounded.bounds.bounds) same bounded.bounds.are in
+    record {
+      certifies = certifies;
+      slack = slack;
+      are = subst (λ (bounds : List ℕ). AreBounds net (excess s.slack) (denominator s.slack) bounds) (sym list) are;
+      room = subst HasRoom (sym list) bounded.bounds.room;
+      within = subst (λ (n : Network). (A : List (List ℕ)) → IsPermitted n A → StaysWithin n (naturals s.bounds) A) same (stays_within s bounded);
+    }
+
+-- the header of a session is that of its parts
+pub header_same : (n net : Network) (f slack : Fraction) (b bounds : List ℤ) → n ≡ net → f ≡ slack → b ≡ bounds → text_of (header_lines n (excess f) (denominator f) (naturals b)) ≡ text_of (header_lines net (excess slack) (denominator slack) (naturals bounds))
+header_same n net f slack b bounds one two three =
+    ap (λ (m : Network). text_of (header_lines m (excess f) (denominator f) (naturals b))) one ∙ ap (λ (x : Fraction). text_of (header_lines net (excess x) (denominator x) (naturals b))) two
+    ∙ ap (λ (ns : List ℤ). text_of (header_lines net (excess slack) (denominator slack) (naturals ns))) three
+
+-- a header that was cut short
+pub cut_so : (net : Network) (cert : Cert) (num den : ℕ) (bounds : List ℕ) → Stood net cert num den bounds → (left was now : Option (List ℕ)) → Tells was now (GainsPrefix (text_of (header_lines net num den bounds))) → RunsSo Write net cert left left was now
+cut_so net cert num den bounds stood left was now told = runs_with net cert num den bounds stood _ (head_cut net (text_of (header_lines net num den bounds)) left was now told)

@@ -61,6 +61,7 @@ fn read_other<St: Store>(
     ensures later { St.faults store.old ≤ St.faults store.new }
     ensures store { (file : FileRole) → result ≡ Err (Outcome.Store file) → Rose (St.faults store.old) (St.faults store.new) }
     ensures quiet { ¬ (result ≡ Err Outcome.Write) }
+    ensures unread { ¬ (result ≡ Err Outcome.Read) }
 {
     let mut bytes = Vec::new(alloc);
     match store.read(alloc, name, &mut bytes, MOST_BYTES) {
@@ -85,6 +86,7 @@ pub fn open_cert<St: Store>(
     ensures later { St.faults store.old ≤ St.faults store.new }
     ensures store { (file : FileRole) → result ≡ Err (Outcome.Store file) → Rose (St.faults store.old) (St.faults store.new) }
     ensures quiet { ¬ (result ≡ Err Outcome.Write) }
+    ensures unread { ¬ (result ≡ Err Outcome.Read) }
 {
     let bytes = match read_other(alloc, name, TextKind::Certificate, store) {
         Ok(bytes) => bytes,

@@ -78,6 +78,8 @@ fn run_under<In: Source, Out: Sink>(
         Ok(session) => session,
         Err(fault) => return outcome_of_opening(fault),
     };
+    // A session's state comes with what the session keeps.
+    let _ = session.state();
     if let Err(Failed) = put_header(out, session.net(), session.slack(), session.bounds()) {
         return Outcome::Write;
     }
@@ -97,6 +99,7 @@ pub fn run<In: Source, Out: Sink>(
     ensures read { result ≡ Outcome.Read → Rose (In.faults input.old) (In.faults input.new) }
     ensures write { result ≡ Outcome.Write → Rose (Out.faults out.old) (Out.faults out.new) }
 {
+    // A network's share total comes with what its rules say.
     let _ = net.shares();
     match admit(alloc, net) {
         Ok(Verdict::Admitted { cert, .. }) => run_under(alloc, net, &cert, input, out),

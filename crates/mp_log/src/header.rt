@@ -1,5 +1,5 @@
 //! Header lines.
-ghost use Rattle.std.specs.Prelude.{◌≡◌, ◌≤◌, ◌<◌, ◌≤ℤ◌, ◌++◌, ◌∷◌, ◌+◌, [], ℕ, List, pos, All, length, map};
+ghost use Rattle.std.specs.Prelude.{◌≡◌, ◌≤◌, ◌<◌, ◌++◌, ◌∷◌, ◌+◌, [], ℕ, List, length, map};
 ghost use Rattle.mp_edge.specs.Outside.{Tells, Puts, HasCause};
 ghost use Rattle.mp_text.specs.Buffered.{MOST_BYTES};
 ghost use Rattle.mp_model.specs.Network.{entry, numbers_to, movement_at};
@@ -111,8 +111,6 @@ pub fn put_header_line<K: Sink>(
 ) -> Result<(), Failed>
     requires known { (1 ≤ i) × (i ≤ length net.now.movements + 2) }
     requires bounds { length bound.now ≡ length net.now.movements }
-    requires above { pos 0 ≤ℤ slack.now.num }
-    requires counts { All (λ b. pos 0 ≤ℤ b) bound.now }
     ensures bytes { Tells (K.held out.old) (K.held out.new) (Puts result (header_line net.now (excess slack.now) (denominator slack.now) (unsigned bound.now) i ++ 10 ∷ [])) }
     ensures cause { HasCause (K.faults out.old) (K.faults out.new) result }
 {
@@ -131,8 +129,6 @@ pub fn put_header<K: Sink>(
     bound: &[i128],
 ) -> Result<(), Failed>
     requires bounds { length bound.now ≡ length net.now.movements }
-    requires above { pos 0 ≤ℤ slack.now.num }
-    requires counts { All (λ b. pos 0 ≤ℤ b) bound.now }
     ensures bytes { Tells (K.held out.old) (K.held out.new) (Puts result (text_of (header_lines net.now (excess slack.now) (denominator slack.now) (unsigned bound.now)))) }
     ensures cause { HasCause (K.faults out.old) (K.faults out.new) result }
 {

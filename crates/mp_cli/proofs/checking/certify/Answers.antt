@@ -8,7 +8,7 @@ returns-in-Ok-Overloaded-clause-acts g c = λ files other left.
     let reached = rw c.in-Ok-Overloaded.field-0-is at c.in-Ok-Overloaded.ensures.calculation in
     let holds = rw c.in-Ok-Overloaded.field-0-is at c.in-Ok-Overloaded.ensures.holds in
     let shows = holds.1 in (
-      refl,
+      tt,
       record { reached = reached; shows = shows; none = overload c.args.net.now c.shares.ensures.acceptable.network (numbers c.in-Ok-Overloaded.against.p, shows) },
       record { input = refl; output = refl },
     )

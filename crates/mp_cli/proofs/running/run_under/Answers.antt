@@ -1,0 +1,43 @@
+use Rattle.std.proofs.Common.{◌≡◌, ◌++◌, ℕ, List, [], refl, sym, ◌∙◌, ap, subst}
+use Rattle.mp_edge.specs.Outside.{Tells, GainsPrefix}
+use Rattle.mp_model.specs.Log.{text_of, header_lines}
+use Rattle.mp_model.specs.Network.{Network}
+use Rattle.mp_press.specs.Queues.{naturals}
+use Rattle.mp_cert.specs.Views.{cert_of}
+use Rattle.mp_drift.specs.Bounded.{excess, denominator}
+use Rattle.mp_run.specs.Running.{EndsAs}
+use Rattle.mp_run.proofs.ProgressLemmas.{with_head}
+use Rattle.mp_cli.specs.declared.outcome.Outcome.{Outcome}
+use Rattle.mp_cli.specs.Runs.{RunsSo}
+use Rattle.mp_cli.proofs.RunLemmas.{opening_so, stood_of, header_same, cut_so, run_so}
+use Rattle.mp_cli.proofs.running.run_under.Goals as goal
+
+pub returns-in-Err-clause-so : goal.returns-in-Err-clause-so
+returns-in-Err-clause-so g c =
+    subst (λ (outcome : Outcome). RunsSo outcome c.args.net.now (cert_of c.args.cert.now) (g.In.Source.left c.args.input.now) (g.In.Source.left c.args.input.now) (g.Out.Sink.held c.args.out.now) (g.Out.Sink.held c.args.out.now)) (sym c.outcome_of_opening.ensures)
+    (opening_so c.in-Err.fault c.args.net.now (cert_of c.args.cert.now) (g.In.Source.left c.args.input.now) (g.Out.Sink.held c.args.out.now) c.requires c.in-Err.ensures.refused)
+
+pub returns-in-Err-put_header-clause-so : goal.returns-in-Err-put_header-clause-so
+returns-in-Err-put_header-clause-so g c =
+    let session = c.in-Ok.session in
+    let stood = stood_of c.args.net.now (cert_of c.args.cert.now) session c.state.ensures.bounded c.in-Ok.ensures.net c.in-Ok.ensures.certifies c.in-Ok.ensures.slack in
+    let head = header_same c.net.result.now c.args.net.now c.slack.result.now session.slack c.bounds.result.now session.bounds (c.net.ensures ∙ c.in-Ok.ensures.net) c.slack.ensures c.bounds.ensures in
+    cut_so c.args.net.now (cert_of c.args.cert.now) (excess session.slack) (denominator session.slack) (naturals session.bounds) stood _ (g.Out.Sink.held c.args.out.now) _
+    (subst (λ (text : List ℕ). Tells (g.Out.Sink.held c.args.out.now) (g.Out.Sink.held c.put_header.new.out) (GainsPrefix text)) head c.in-Err-put_header.ensures.bytes)
+
+pub returns-clause-so : goal.returns-clause-so
+returns-clause-so g c =
+    let session = c.in-Ok.session in
+    let net = c.args.net.now in
+    let left = g.In.Source.left c.args.input.now in
+    let rest = g.In.Source.left c.run_stream.new.input in
+    let was = g.Out.Sink.held c.args.out.now in
+    let mid = g.Out.Sink.held c.put_header.new.out in
+    let now = g.Out.Sink.held c.run_stream.new.out in
+    let stood = stood_of net (cert_of c.args.cert.now) session c.state.ensures.bounded c.in-Ok.ensures.net c.in-Ok.ensures.certifies c.in-Ok.ensures.slack in
+    let head = header_same c.net.result.now net c.slack.result.now session.slack c.bounds.result.now session.bounds (c.net.ensures ∙ c.in-Ok.ensures.net) c.slack.ensures c.bounds.ensures in
+    let whole = text_of (header_lines net (excess session.slack) (denominator session.slack) (naturals session.bounds)) in
+    let told = subst (λ (text : List ℕ). Tells was mid (λ before after. after ≡ before ++ text)) head c.in_default.ensures.bytes in
+    let behind = subst (λ (n : Network). EndsAs n [] c.run_stream.result left rest mid now) c.in-Ok.ensures.net c.run_stream.ensures.ends in
+    subst (λ (outcome : Outcome). RunsSo outcome net (cert_of c.args.cert.now) left rest was now) (sym c.outcome_of.ensures)
+    (run_so c.run_stream.result net (cert_of c.args.cert.now) (excess session.slack) (denominator session.slack) (naturals session.bounds) stood left rest was now (with_head net whole c.run_stream.result left rest was mid now told behind))
