@@ -13,7 +13,6 @@ use Rattle.mp_net.specs.declared.fault.Section.TheVariants as section
 use Rattle.mp_net.specs.declared.fault.Spot.{Spot}
 use Rattle.mp_netfile.specs.Meaning.{file_meaning}
 use Rattle.mp_cli.specs.declared.command.Command.{Command}
-use Rattle.mp_cli.specs.declared.command.Command.TheVariants.{Run}
 use Rattle.mp_cli.specs.declared.outcome.FileRole.{FileRole}
 use Rattle.mp_cli.specs.declared.outcome.FileRole.TheVariants.{Net, Other}
 use Rattle.mp_cli.specs.declared.outcome.Outcome.{Outcome}
@@ -24,10 +23,6 @@ use Rattle.mp_cli.specs.Messages.{message_of}
 use Rattle.mp_cli.specs.Ends.{OfNetwork, Acts, Means, Reports}
 use Rattle.mp_cli.specs.Opening.{IsRefusal}
 use Rattle.mp_cli.specs.Runs.{Runs}
-use Rattle.mp_run.specs.Running.{EndsAs}
-use Rattle.mp_run.specs.declared.run.RunEnd.{RunEnd}
-use Rattle.mp_run.specs.declared.run.RunEnd.TheVariants as end
-use Rattle.mp_cli.specs.Outcomes.{outcome_of}
 
 -- a long file breaks the first rule
 pub long_file : (bytes : List ℕ) → 1048576 < length bytes → file_meaning bytes ≡ Err (rule.TooLong, record { section = section.Top; number = 0 })

@@ -1,5 +1,5 @@
 -- How a run under a certificate comes about.
-use Rattle.std.proofs.Common.{◌≡◌, ◌≢◌, ◌≤◌, ◌*◌, ℕ, ℤ, pos, List, refl, sym, ◌∙◌, ap, subst, arith, nat_abs, unsigned_abs, inl, inr, Ok, Err}
+use Rattle.std.proofs.Common.{◌≡◌, ◌≤◌, ◌*◌, ℕ, ℤ, List, refl, sym, ◌∙◌, ap, subst, arith, nat_abs, unsigned_abs, inr, Ok, Err}
 use Rattle.std.specs.declared.option.Option.{Option}
 use Rattle.std.proofs.Math.Nat.{le_of_mul-le-mul_left}
 use Rattle.mp_edge.specs.Outside.{Tells, GainsPrefix}
@@ -40,7 +40,7 @@ use Rattle.mp_cli.specs.declared.outcome.Outcome.TheVariants.{Done, Certificate 
 use Rattle.mp_cli.specs.Ends.{Acts}
 use Rattle.mp_cli.specs.Others.{Files, OfCert}
 use Rattle.mp_cli.specs.Outcomes.{outcome_of, outcome_of_opening}
-use Rattle.mp_cli.specs.Runs.{RunsUnder, RunsWith, RunsWithGreatest, OfAdmitted, RunsSo}
+use Rattle.mp_cli.specs.Runs.{RunsWith, RunsWithGreatest, OfAdmitted, RunsSo}
 
 -- equal fractions have equal cross products
 crossed : (e d E D E' D' : ℕ) → 1 ≤ d → e * D ≡ E * d → e * D' ≡ E' * d → E * D' ≡ E' * D

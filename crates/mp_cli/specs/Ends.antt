@@ -1,5 +1,5 @@
 -- What each outcome of the top call says of the files, the input and the output.
-use Rattle.std.specs.Prelude.{◌≡◌, ◌<◌, ◌⊎◌, ◌++◌, ◌∷◌, ℕ, List, [], length, Option, None, Ok, Err}
+use Rattle.std.specs.Prelude.{◌≡◌, ◌<◌, ◌⊎◌, ◌++◌, ℕ, List, length, Option, None, Ok, Err}
 use Rattle.mp_edge.specs.Outside.{Tells, Rose, GainsPrefix, OfFile}
 use Rattle.mp_model.specs.Network.{Network}
 use Rattle.mp_model.specs.Stream.LineKind.{long_line, bad_line}

@@ -17,7 +17,7 @@ use Rattle.mp_verdict.specs.Laws.{IsAdmitted}
 use Rattle.mp_verdict.specs.Stated.{Reached}
 use Rattle.mp_verdict.specs.Verdict.{verdict, Admitted, Critical, Overloaded}
 use Rattle.mp_cli.specs.declared.command.Command.{Command}
-use Rattle.mp_cli.specs.declared.command.Command.TheVariants.{Run, RunWith, Show, Certify, Check, Refute, Unknown}
+use Rattle.mp_cli.specs.declared.command.Command.TheVariants.{Run, RunWith, Certify, Check, Refute}
 
 -- The files are told as names and bytes, or not at all.
 abbrev pub Files : Type 0

@@ -1,5 +1,5 @@
 -- What is said of a run under a certificate: its header, and the bounds that hold over all permitted arrivals.
-use Rattle.std.specs.Prelude.{◌≡◌, ◌≢◌, ◌⊎◌, ℕ, ℤ, List, Option, Ok, Err}
+use Rattle.std.specs.Prelude.{◌≡◌, ◌≢◌, ◌⊎◌, ℕ, ℤ, List, Option, Err}
 use Rattle.mp_model.specs.Arrivals.{IsPermitted}
 use Rattle.mp_model.specs.Bounds.{AreBounds, HasRoom}
 use Rattle.mp_model.specs.Certificate.{Cert, Certifies}

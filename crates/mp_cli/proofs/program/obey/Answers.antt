@@ -30,14 +30,14 @@ returns-in-RunWith g c =
     let rest = g.In.Source.left c.run_with.new.input in
     let was = g.Out.Sink.held c.args.out.now in
     let now = g.Out.Sink.held c.run_with.new.out in
-    record
-        { words = λ e. absurd (let no = sym c.in-RunWith.is ∙ e in cc)
-        ; means = subst (λ (k : Command). Means c.run_with.result k files c.args.name.now c.args.other.now left rest was now) (sym c.in-RunWith.is)
-          (acts_later c.run_with.result RunWith files later c.args.name.now c.args.other.now c.in-Ok.net left rest was now c.in-Ok.ensures.same c.in-Ok.ensures.net c.run_with.ensures.acts)
-        ; store = λ file e. Rose-within (g.St.Store.faults c.args.store.now) (g.St.Store.faults c.open_net.new.store) (g.St.Store.faults c.run_with.new.store) (g.St.Store.faults c.run_with.new.store) c.in-Ok.ensures.later (c.run_with.ensures.store file e) (omega arith)
-        ; read = c.run_with.ensures.read
-        ; write = c.run_with.ensures.write
-        }
+    record {
+      words = λ e. absurd (let no = sym c.in-RunWith.is ∙ e in cc);
+      means = subst (λ (k : Command). Means c.run_with.result k files c.args.name.now c.args.other.now left rest was now) (sym c.in-RunWith.is)
+          (acts_later c.run_with.result RunWith files later c.args.name.now c.args.other.now c.in-Ok.net left rest was now c.in-Ok.ensures.same c.in-Ok.ensures.net c.run_with.ensures.acts);
+      store = λ file e. Rose-within (g.St.Store.faults c.args.store.now) (g.St.Store.faults c.open_net.new.store) (g.St.Store.faults c.run_with.new.store) (g.St.Store.faults c.run_with.new.store) c.in-Ok.ensures.later (c.run_with.ensures.store file e) (omega arith);
+      read = c.run_with.ensures.read;
+      write = c.run_with.ensures.write;
+    }
 
 pub returns-in-Certify : goal.returns-in-Certify
 returns-in-Certify g c =

@@ -15,7 +15,8 @@ pub returns-in-Ok-Overloaded-clause-acts : goal.returns-in-Ok-Overloaded-clause-
 returns-in-Ok-Overloaded-clause-acts g c = λ files other.
     let reached = rw c.in-Ok-Overloaded.field-0-is at c.in-Ok-Overloaded.ensures.calculation in
     let holds = rw c.in-Ok-Overloaded.field-0-is at c.in-Ok-Overloaded.ensures.holds in
-    let shows = holds.1 in
-    (tt,
-     record { reached = reached; shows = shows; none = overload c.args.net.now c.shares.ensures.acceptable.network (numbers c.in-Ok-Overloaded.against.p, shows) },
-     record { input = refl; output = refl })
+    let shows = holds.1 in (
+      tt,
+      record { reached = reached; shows = shows; none = overload c.args.net.now c.shares.ensures.acceptable.network (numbers c.in-Ok-Overloaded.against.p, shows) },
+      record { input = refl; output = refl },
+    )

@@ -1,4 +1,4 @@
-use Rattle.std.proofs.Common.{◌≡◌, ◌++◌, ℕ, List, [], refl, sym, ◌∙◌, ap, subst}
+use Rattle.std.proofs.Common.{◌≡◌, ◌++◌, ℕ, List, [], sym, ◌∙◌, subst}
 use Rattle.mp_edge.specs.Outside.{Tells, GainsPrefix}
 use Rattle.mp_model.specs.Log.{text_of, header_lines}
 use Rattle.mp_model.specs.Network.{Network}
