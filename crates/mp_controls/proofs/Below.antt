@@ -49,7 +49,7 @@ excess_some e D (suc E) d s a b = omega arith
 
 -- the step, over plain numbers: with some queued the drift is strict, and with none the period is
 below_numbers : (D v v' B c s L top : ℕ) → 1 ≤ D → 1 ≤ c → D * v' + c * s ≤ D * v + D * B → L ≡ D * B / c → v ≤ top → (s ≤ L → v + B ≤ top) → (s ≡ 0 → v' + 1 ≤ v + B) → v' + 1 ≤ top
-below_numbers D v v' B c s L top D1 c1 move is below few none =
+below_numbers D v v' B c s L top D_some c1 move is below few none =
     ⊎_elim
     (λ (many : L < s).
     let a : D * B < c * (D * B / c + 1) = lt-mul-div-succ (D * B) c1 in
@@ -75,8 +75,8 @@ pub below : (net : Network) → IsNetwork net → 1 ≤ length net.movements →
 below net ok some cert c E D slack stages arrivals q phase level q' phase' level' greatest period within top =
     let e = excess_is cert.e c.excess in
     let w = mul-le-mul ok.shares ok.per in
-    let E1 = excess_some (nat_abs cert.e) D E (nat_abs cert.d) (slack_is net cert c E D slack) e.1 slack.lowest.denominator in
+    let E_some = excess_some (nat_abs cert.e) D E (nat_abs cert.d) (slack_is net cert c E D slack) e.1 slack.lowest.denominator in
     below_numbers D (drift_value net q phase level) (drift_value net q' phase' level') (drift_constant net) (2 * (net.shares * net.per * (net.shares * net.per)) * E) (sum_by q (movement_numbers net)) (queue_threshold net E D) (greatest_drift net E D)
-    slack.lowest.denominator (omega (arith, mul-le-mul (mul-le-mul w w) E1))
+    slack.lowest.denominator (omega (arith, mul-le-mul (mul-le-mul w w) E_some))
     (one_period_of net ok cert c E D slack stages arrivals q phase level q' phase' level' greatest period) refl top (few_queued net ok E D q phase level within)
     (still_below net ok some (to_plain cert) (plain_holds net ok cert c.rules e.0) e.1 stages arrivals q phase level q' phase' level' period within)

@@ -145,10 +145,10 @@ one_more net ok burst three cert c E D slack a near =
     let f = 2 * (r * r) * E in
     let L = queue_threshold net E D in
     let x = D * B - f * L in
-    let D1 = slack.lowest.denominator in
-    let E1 = excess_some (nat_abs cert.e) D E (nat_abs cert.d) (slack_is net cert c E D slack) (excess_is cert.e c.excess).1 D1 in
+    let D_some = slack.lowest.denominator in
+    let E_some = excess_some (nat_abs cert.e) D E (nat_abs cert.d) (slack_is net cert c E D slack) (excess_is cert.e c.excess).1 D_some in
     let r1 : 1 ≤ r = mul-le-mul ok.shares ok.per in
-    let parts = left_parts D B f (omega (arith, mul-le-mul (mul-le-mul r1 r1) E1)) in
+    let parts = left_parts D B f (omega (arith, mul-le-mul (mul-le-mul r1 r1) E_some)) in
     let apart = terms_apart net in
     let some = bursts_some net ok burst in
     let squares = squares_apart (credit_term net) (credit_part net) (λ k. omega arith) ks in
@@ -157,10 +157,10 @@ one_more net ok burst three cert c E D slack a near =
     ⊎_elim
     (λ (steep : D < E).
     steep_one_more r z L D E B x a u v (burst_part net) (constant_left net E D)
-    (record { some = r1; denominator = D1; slack = omega arith; burst = omega (arith, apart, some); parts = parts.0; left = parts.1; constant = constant_steep net ok three E D (slack_most net ok cert c E D slack) })
+    (record { some = r1; denominator = D_some; slack = omega arith; burst = omega (arith, apart, some); parts = parts.0; left = parts.1; constant = constant_steep net ok three E D (slack_most net ok cert c E D slack) })
     apart some squares left cases)
     (λ (gentle : E ≤ D).
     gentle_one_more r z L D E B x a u v (burst_part net) (constant_left net E D)
-    (record { some = r1; denominator = D1; slack = gentle; burst = omega (arith, apart, some); parts = parts.0; left = parts.1; constant = constant_gentle net ok three })
+    (record { some = r1; denominator = D_some; slack = gentle; burst = omega (arith, apart, some); parts = parts.0; left = parts.1; constant = constant_gentle net ok three })
     apart some squares left cases)
     (cases_lt D E)

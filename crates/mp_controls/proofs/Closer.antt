@@ -73,45 +73,45 @@ value_most net ok q phase level within =
 
 -- while the square rises more slowly than the drift falls, none queued is the worst
 from_none : (D c r u s v' G B : ℕ) → 1 ≤ D → D * v' + c * s ≤ D * ((r * s + u) * (r * s + u) + G) + D * B → D * (r * r * s + 2 * r * u) ≤ c → v' ≤ (r * 0 + u) * (r * 0 + u) + G + B
-from_none D c r u s v' G B D1 move slow = le_of_mul-le-mul_left {k = D} (omega (arith, move, mul-le-mul_right s slow)) D1
+from_none D c r u s v' G B D_some move slow = le_of_mul-le-mul_left {k = D} (omega (arith, move, mul-le-mul_right s slow)) D_some
 
 square_more : (D c r u s m : ℕ) → c ≤ D * (r * r * s + 2 * r * u) → D * ((r * s + u) * (r * s + u)) + c * m ≤ D * ((r * (s + m) + u) * (r * (s + m) + u))
 square_more D c r u s m fast = omega (arith, mul-le-mul_right m fast)
 
 left_numbers : (D v' a x : ℕ) → 1 ≤ D → D * v' ≤ D * a + x → v' ≤ a + x / D
-left_numbers D v' a x D1 h =
+left_numbers D v' a x D_some h =
     ⊎_elim
     (λ (more : a < v').
     let e : v' ≡ a + (v' - a) = omega arith in
     let p : (v' - a) * D ≤ x = omega (arith, ap (λ n. D * n) e) in
-    let q = (le-div_iff_mul-le D1).1 p in
+    let q = (le-div_iff_mul-le D_some).1 p in
     omega arith)
     (λ (less : v' ≤ a). omega arith) (cases_lt a v')
 
 -- and where it rises faster, the threshold queued is
 from_threshold : (D c r u s L v' G B : ℕ) → 1 ≤ D → s ≤ L → c * L ≤ D * B → D * v' + c * s ≤ D * ((r * s + u) * (r * s + u) + G) + D * B → c ≤ D * (r * r * s + 2 * r * u) → v' ≤ (r * L + u) * (r * L + u) + G + (D * B - c * L) / D
-from_threshold D c r u s L v' G B D1 most some move fast =
+from_threshold D c r u s L v' G B D_some most some move fast =
     let e : L ≡ s + (L - s) = omega arith in
     let more = square_more D c r u s (L - s) fast in
     let at : D * ((r * s + u) * (r * s + u)) + c * (L - s) ≤ D * ((r * L + u) * (r * L + u)) = subst (λ n. D * ((r * s + u) * (r * s + u)) + c * (L - s) ≤ D * ((r * n + u) * (r * n + u))) (sym e) more in
-    left_numbers D v' ((r * L + u) * (r * L + u) + G) (D * B - c * L) D1 (omega (arith, move, at, ap (λ n. c * n) e))
+    left_numbers D v' ((r * L + u) * (r * L + u) + G) (D * B - c * L) D_some (omega (arith, move, at, ap (λ n. c * n) e))
 
 -- the step, over plain numbers
 closer_numbers : (D c r u G v v' B s L : ℕ) → 1 ≤ D → 1 ≤ c → D * v' + c * s ≤ D * v + D * B → L ≡ D * B / c → v ≤ (r * s + u) * (r * s + u) + G →
     let top = max ((r * 0 + u) * (r * 0 + u) + G + B) ((r * L + u) * (r * L + u) + G + (D * B - c * L) / D) in v ≤ top → v' ≤ top
-closer_numbers D c r u G v v' B s L D1 c1 move is small kept =
+closer_numbers D c r u G v v' B s L D_some c1 move is small kept =
     ⊎_elim
     (λ (many : L < s).
     let a : D * B < c * (D * B / c + 1) = lt-mul-div-succ (D * B) c1 in
     let b : c * (D * B / c + 1) ≤ c * s = mul-le-mul_left c (omega arith) in
-    let f : v' ≤ v = le_of_mul-le-mul_left {k = D} (omega arith) D1 in
+    let f : v' ≤ v = le_of_mul-le-mul_left {k = D} (omega arith) D_some in
     le_trans f kept)
     (λ (most : s ≤ L).
     let some : c * L ≤ D * B = omega (arith, div-mul-le_self (D * B) c, ap (λ n. c * n) is) in
     let moved : D * v' + c * s ≤ D * ((r * s + u) * (r * s + u) + G) + D * B = omega (arith, move, mul-le-mul_left D small) in
     ⊎_elim
-    (λ (slow : D * (r * r * s + 2 * r * u) < c). let f = from_none D c r u s v' G B D1 moved (omega arith) in omega (arith, f))
-    (λ (fast : c ≤ D * (r * r * s + 2 * r * u)). let f = from_threshold D c r u s L v' G B D1 most some moved fast in omega (arith, f))
+    (λ (slow : D * (r * r * s + 2 * r * u) < c). let f = from_none D c r u s v' G B D_some moved (omega arith) in omega (arith, f))
+    (λ (fast : c ≤ D * (r * r * s + 2 * r * u)). let f = from_threshold D c r u s L v' G B D_some most some moved fast in omega (arith, f))
     (cases_lt (D * (r * r * s + 2 * r * u)) c))
     (cases_lt L s)
 
@@ -120,7 +120,7 @@ pub closer_kept : (net : Network) → IsNetwork net → (cert : Cert) → Certif
     drift_value net q phase level ≤ closer_drift net E D → drift_value net q' phase' level' ≤ closer_drift net E D
 closer_kept net ok cert c E D slack stages arrivals q phase level q' phase' level' greatest period within top =
     let w = mul-le-mul ok.shares ok.per in
-    let E1 = excess_some (nat_abs cert.e) D E (nat_abs cert.d) (slack_is net cert c E D slack) (excess_is cert.e c.excess).1 slack.lowest.denominator in
+    let E_some = excess_some (nat_abs cert.e) D E (nat_abs cert.d) (slack_is net cert c E D slack) (excess_is cert.e c.excess).1 slack.lowest.denominator in
     closer_numbers D (2 * (net.shares * net.per * (net.shares * net.per)) * E) (net.shares * net.per) (sum_by (credit_part net) (movement_numbers net)) (burst_part net) (drift_value net q phase level) (drift_value net q' phase' level') (drift_constant net) (sum_by q (movement_numbers net)) (queue_threshold net E D)
-    slack.lowest.denominator (omega (arith, mul-le-mul (mul-le-mul w w) E1))
+    slack.lowest.denominator (omega (arith, mul-le-mul (mul-le-mul w w) E_some))
     (one_period_of net ok cert c E D slack stages arrivals q phase level q' phase' level' greatest period) refl (value_most net ok q phase level within) top

@@ -150,7 +150,7 @@ one_more_numbers : (r z L D E B x w a u v G t : ℕ) → 1 ≤ D → r ≤ z →
     4 * (D * D) * (r * r * (L * L) + 2 * r * L * z + z * z) + 4 * D * x ≤ (r * w) * (r * w) + 8 * (D * D) * (r * r) * L → w + D ≡ 2 * L * (D + E) →
     z ≡ u + v → r ≤ v → G + u * u ≤ z * z → D * t ≤ x → (a * a ≤ (r * 0 + u) * (r * 0 + u) + G + B) ⊎ (a * a ≤ (r * L + u) * (r * L + u) + G + t) →
     (a + r) * (a + r) ≤ (r * L + z) * (r * L + z) + B
-one_more_numbers r z L D E B x w a u v G t D1 rz two parts constant square e apart rv squares left cases =
+one_more_numbers r z L D E B x w a u v G t D_some rz two parts constant square e apart rv squares left cases =
     ⊎_elim
     (λ (none : a * a ≤ (r * 0 + u) * (r * 0 + u) + G + B).
     let h = at_none r z L B a rz two constant (omega (arith, none, squares)) in
@@ -158,7 +158,7 @@ one_more_numbers r z L D E B x w a u v G t D1 rz two parts constant square e apa
     (λ (many : a * a ≤ (r * L + u) * (r * L + u) + G + t).
     let near : a * a + 2 * r * L * v ≤ (r * L + z) * (r * L + z) + t = omega (arith, many, squares, ap (λ n. r * L * n) apart) in
     let h = at_threshold r z L D E x w a t v rv square e near left in
-    le_of_mul-le-mul_left {k = D} (omega (arith, mul-le-mul_left D near, mul-le-mul_left r h, parts, left)) D1)
+    le_of_mul-le-mul_left {k = D} (omega (arith, mul-le-mul_left D near, mul-le-mul_left r h, parts, left)) D_some)
     cases
 
 pub gentle_one_more : (r z L D E B x a u v G t : ℕ) → Gentle r z L D E B x → z ≡ u + v → r ≤ v → G + u * u ≤ z * z → D * t ≤ x → (a * a ≤ (r * 0 + u) * (r * 0 + u) + G + B) ⊎ (a * a ≤ (r * L + u) * (r * L + u) + G + t) →
