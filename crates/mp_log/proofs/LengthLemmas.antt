@@ -5,7 +5,9 @@ use Rattle.std.specs.Fmt.{decimal, signed_decimal}
 use Rattle.std.proofs.lemmas.List.{length-append, length-map}
 use Rattle.std.proofs.lemmas.List.Elements.{All-head, All-tail}
 use Rattle.std.proofs.lemmas.Fmt.{length-decimal-le_wide}
-use Rattle.mp_model.specs.Log.{spaced}
+use Rattle.mp_model.specs.Log.{spaced, period_line, end_line_of}
+use Rattle.mp_text.specs.Buffered.{MOST_BYTES}
+use Rattle.mp_log.proofs.DigitLemmas.{digits_few}
 use Rattle.mp_log.specs.Fitting.{FitsLine}
 
 pub spaced_signed : (ns : List ℕ) → flat_map (λ n. 32 ∷ signed_decimal n) (map pos ns) ≡ spaced ns
@@ -44,3 +46,19 @@ short period arrivals stages queues f = record {
       let text = ap (λ qs. length (flat_map (λ q. 32 ∷ signed_decimal q) qs)) f.none_negative ∙ ap length (spaced_signed f.counts) in
       omega (arith, length-map f.counts pos);
 }
+
+-- the line of a period fits a buffer
+pub period_short : (period : ℕ) (arrivals stages queues : List ℕ) → FitsLine period arrivals stages (map pos queues) → length (period_line period arrivals stages queues) < MOST_BYTES
+period_short period arrivals stages queues f =
+    let s = short period arrivals stages (map pos queues) f in
+    let queues_are = ap (length {A = ℕ}) (spaced_signed queues) in
+    let number = digits_few period in
+    simp length-append (omega (arith, s.arrivals_short, s.stages_short, s.queues_short))
+
+pub end_short : (period total_in total_out queued : ℕ) → length (end_line_of period total_in total_out queued) < MOST_BYTES
+end_short period total_in total_out queued =
+    let p = digits_few period in
+    let i = digits_few total_in in
+    let o = digits_few total_out in
+    let q = digits_few queued in
+    simp length-append (omega arith)

@@ -5,3 +5,5 @@ pub mod KindLemmas
 pub mod LengthLemmas
 pub mod HeaderLemmas
 pub mod PutLemmas
+pub mod DigitLemmas
+pub mod LoggedLemmas

@@ -1,3 +1,4 @@
 pub mod Fitting
 pub mod Kinds
 pub mod Heading
+pub mod Logged

@@ -81,9 +81,10 @@ fn push_bound(line: &mut LineSink, net: &Net, bound: &[i128], k: MovementNo)
     push_number(line, bound_of(bound, k));
 }
 
-// Header line number i in an empty buffer.
+/// Appends header line number `i`, from 1, without its line feed to an empty buffer. There is one bound
+/// per movement, in vehicles.
 #[tactic(auto, using(crate::proofs::HeaderLemmas::headers))]
-fn push_header(line: &mut LineSink, net: &Net, slack: &Frac, bound: &[i128], i: u32)
+pub fn push_header_line(line: &mut LineSink, net: &Net, slack: &Frac, bound: &[i128], i: u32)
     requires empty { line.old.held ≡ [] }
     requires known { (1 ≤ i) × (i ≤ length net.now.movements + 2) }
     requires bounds { length bound.now ≡ length net.now.movements }
@@ -115,7 +116,7 @@ pub fn put_header_line<K: Sink>(
     ensures cause { HasCause (K.faults out.old) (K.faults out.new) result }
 {
     let mut line = LineSink::new();
-    push_header(&mut line, net, slack, bound, i);
+    push_header_line(&mut line, net, slack, bound, i);
     push_text(&mut line, b"\n");
     out.put(line.bytes())
 }

@@ -4,11 +4,13 @@
 mod end;
 mod header;
 mod line;
+mod logged;
 mod period;
 mod stream_line;
 
-pub use end::put_end;
-pub use header::{header_lines, put_header, put_header_line};
+pub use end::{push_end, put_end};
+pub use header::{header_lines, push_header_line, put_header, put_header_line};
 pub use line::{push_number, push_text};
-pub use period::put_period;
+pub use logged::read_arrivals;
+pub use period::{push_period, put_period, put_period_in};
 pub use stream_line::{StreamLine, read_line};

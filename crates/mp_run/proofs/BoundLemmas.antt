@@ -38,7 +38,7 @@ pub net_same : (old new : Bounded) → new ≡ record old { at = new.at; stages 
 net_same old new same = ap (λ (s : Bounded). s.net) same
 
 -- the stages of greatest pressure are stages
-stages_are : (s : Bounded) → IsBounded s → (q : List ℕ) → AreStages s.net.junctions (greatest_stages s.net (entry q))
+pub stages_are : (s : Bounded) → IsBounded s → (q : List ℕ) → AreStages s.net.junctions (greatest_stages s.net (entry q))
 stages_are s b q = greatest_are_stages s.net (entry q) s.net.junctions (greatest_stages s.net (entry q)) (all_greatest s.net (entry q) s.net.junctions b.acceptable.network.some_stage)
 
 -- the line of the period that a session closed fits

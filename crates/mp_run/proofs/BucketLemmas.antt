@@ -11,7 +11,7 @@ pub permitted_empty : (net : Network) → IsPermitted net []
 permitted_empty net = record { counts = tt; windows = each_in _ (fed net) (λ l f. keeps_to net.per (link_at net l).burst (link_at net l).rate [] tt) }
 
 -- what keeps to its bucket kept to it before
-keeps_first : (per burst rate : ℕ) (cs more : List ℕ) → KeepsTo per burst rate (cs ++ more) → KeepsTo per burst rate cs
+pub keeps_first : (per burst rate : ℕ) (cs more : List ℕ) → KeepsTo per burst rate (cs ++ more) → KeepsTo per burst rate cs
 keeps_first per burst rate cs more keeps before window after e =
     keeps before window (after ++ more) (ap (λ xs. xs ++ more) e ∙ append_assoc before (window ++ after) more ∙ ap (λ xs. before ++ xs) (append_assoc window after more))
 

@@ -4,3 +4,6 @@ pub mod BucketLemmas
 pub mod LineLemmas
 pub mod PeriodLemmas
 pub mod ProgressLemmas
+pub mod LogLemmas
+pub mod AuditLemmas
+pub mod DifferLemmas

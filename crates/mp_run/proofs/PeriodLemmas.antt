@@ -27,15 +27,18 @@ pub one_line : (line : List ℕ) → text_of (line ∷ []) ≡ line ++ 10 ∷ []
 one_line line = append-nil (line ++ 10 ∷ [])
 
 -- the line of a period is that of the run
+pub line_after_is : (net : Network) (stages counts : List ℕ) (old new : Standing) → stages ≡ greatest_stages net (entry old.queues)
+    → (state : State) → Stands net old state → Stands net new (advance net counts state) → period_line new.period counts stages new.queues ≡ line_after net state counts
+line_after_is net stages counts old new chosen state stands after =
+    let same : stages ≡ greatest_stages net (queue state) = chosen ∙ ap (λ q. greatest_stages net (entry q)) stands.queues in
+    ap (λ p. period_line p counts stages new.queues) after.period
+    ∙ ap (λ s. period_line (advance net counts state).period counts s new.queues) same
+    ∙ ap (λ q. period_line (advance net counts state).period counts (greatest_stages net (queue state)) q) after.queues
+
 pub line_is : (net : Network) (stages counts : List ℕ) (old new : Standing) → stages ≡ greatest_stages net (entry old.queues)
     → (state : State) → Stands net old state → Stands net new (advance net counts state) → period_line new.period counts stages new.queues ++ 10 ∷ [] ≡ text_of (line_after net state counts ∷ [])
 line_is net stages counts old new chosen state stands after =
-    let same : stages ≡ greatest_stages net (queue state) = chosen ∙ ap (λ q. greatest_stages net (entry q)) stands.queues in
-    ap (λ line. line ++ 10 ∷ [])
-    (ap (λ p. period_line p counts stages new.queues) after.period
-    ∙ ap (λ s. period_line (advance net counts state).period counts s new.queues) same
-    ∙ ap (λ q. period_line (advance net counts state).period counts (greatest_stages net (queue state)) q) after.queues)
-    ∙ sym (one_line (line_after net state counts))
+    ap (λ line. line ++ 10 ∷ []) (line_after_is net stages counts old new chosen state stands after) ∙ sym (one_line (line_after net state counts))
 
 -- the entries of a list, by their numbers
 sum_by_numbers : (q front : List ℕ) (n : ℕ) → n ≡ length front + 1 → sum_by (entry (front ++ q)) (range_with_len n (length q)) ≡ sum q
@@ -54,22 +57,22 @@ queued_is net st state on stands =
     ap (λ q. sum_by (entry q) (movement_numbers net)) (sym stands.queues)
     ∙ ap (λ n. sum_by (entry st.queues) (range_with_len 1 n)) (sym on.queues) ∙ sum_by_numbers st.queues [] 1 refl
 
-pub end_is : (net : Network) (st : Standing) (state : State) (n : ℕ) → IsOn net st → Stands net st state → n ≡ sum st.queues
-    → end_line_of st.period st.total_in st.total_out n ++ 10 ∷ [] ≡ text_of (end_line net state ∷ [])
-end_is net st state n on stands is =
-    ap (λ line. line ++ 10 ∷ [])
-    (ap (λ p. end_line_of p st.total_in st.total_out n) stands.period ∙ ap (λ i. end_line_of state.period i st.total_out n) stands.total_in
-    ∙ ap (λ o. end_line_of state.period state.total_in o n) stands.total_out ∙ ap (end_line_of state.period state.total_in state.total_out) (is ∙ sym (queued_is net st state on stands)))
-    ∙ sym (one_line (end_line net state))
+-- the end line is that of the run
+pub end_line_is : (net : Network) (st : Standing) (period total_in total_out n : ℕ) → IsOn net st → period ≡ st.period → total_in ≡ st.total_in → total_out ≡ st.total_out → n ≡ total_in - total_out
+    → st.total_in ≡ st.total_out + sum st.queues → (state : State) → Stands net st state → end_line_of period total_in total_out n ≡ end_line net state
+end_line_is net st period total_in total_out n on p i o is conserved state stands =
+    let left : n ≡ sum st.queues = omega arith in
+    ap (λ m. end_line_of m total_in total_out n) (p ∙ stands.period) ∙ ap (λ m. end_line_of state.period m total_out n) (i ∙ stands.total_in)
+    ∙ ap (λ m. end_line_of state.period state.total_in m n) (o ∙ stands.total_out) ∙ ap (end_line_of state.period state.total_in state.total_out) (left ∙ sym (queued_is net st state on stands))
 
 -- stages are as many as the junctions, and none is above the most stages of a junction
-stages_count : (js : List Junction) (ss : List ℕ) → AreStages js ss → length ss ≡ length js
+pub stages_count : (js : List Junction) (ss : List ℕ) → AreStages js ss → length ss ≡ length js
 stages_count [] [] are = refl
 stages_count (j ∷ js) (s ∷ ss) are = let rest = stages_count js ss are.1 in omega arith
 stages_count [] (s ∷ ss) are = absurd are
 stages_count (j ∷ js) [] are = absurd are
 
-stages_small : (js : List Junction) (ss : List ℕ) → AreStages js ss → AllByRecursion (λ j. length j.stages ≤ 16) js → All (λ s. s ≤ 16) ss
+pub stages_small : (js : List Junction) (ss : List ℕ) → AreStages js ss → AllByRecursion (λ j. length j.stages ≤ 16) js → All (λ s. s ≤ 16) ss
 stages_small [] [] are most = λ k d low. absurd (omega arith)
 stages_small (j ∷ js) (s ∷ ss) are most = All-cons (λ m. m ≤ 16) s ss (omega (arith, are.0, most.0)) (stages_small js ss are.1 most.1)
 stages_small [] (s ∷ ss) are most = absurd are
@@ -122,8 +125,7 @@ cuts_period net counts stages old new period n was now chosen takes advances is 
 put_end_is : (net : Network) (st : Standing) (period total_in total_out n : ℕ) → IsOn net st → period ≡ st.period → total_in ≡ st.total_in → total_out ≡ st.total_out → n ≡ total_in - total_out
     → st.total_in ≡ st.total_out + sum st.queues → (state : State) → Stands net st state → end_line_of period total_in total_out n ++ 10 ∷ [] ≡ text_of (end_line net state ∷ [])
 put_end_is net st period total_in total_out n on p i o is conserved state stands =
-    ap (λ m. end_line_of m total_in total_out n ++ 10 ∷ []) p ∙ ap (λ m. end_line_of st.period m total_out n ++ 10 ∷ []) i ∙ ap (λ m. end_line_of st.period st.total_in m n ++ 10 ∷ []) o
-    ∙ end_is net st state n on stands (omega arith)
+    ap (λ line. line ++ 10 ∷ []) (end_line_is net st period total_in total_out n on p i o is conserved state stands) ∙ sym (one_line (end_line net state))
 
 -- the end line that is put
 pub finishes_done : {T E : Type 0} (r : Result T E) (x : T) (net : Network) (st : Standing) (period total_in total_out n : ℕ) (was now : Option (List ℕ)) → IsOn net st → period ≡ st.period → total_in ≡ st.total_in → total_out ≡ st.total_out

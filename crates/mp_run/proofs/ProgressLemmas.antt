@@ -25,11 +25,11 @@ use Rattle.mp_run.proofs.BucketLemmas.{permitted_empty}
 use Rattle.mp_run.proofs.LineLemmas.{first_kind, first_long, starts_empty, starts_more, arrivals_more, arrivals_skipped}
 
 -- one more period at the end of a run
-state_more : (net : Network) (state : State) (A : List (List ℕ)) (counts : List ℕ) → state_after net state (A ++ counts ∷ []) ≡ advance net counts (state_after net state A)
+pub state_more : (net : Network) (state : State) (A : List (List ℕ)) (counts : List ℕ) → state_after net state (A ++ counts ∷ []) ≡ advance net counts (state_after net state A)
 state_more net state [] counts = refl
 state_more net state (a ∷ A) counts = state_more net (advance net a state) A counts
 
-lines_more : (net : Network) (state : State) (A : List (List ℕ)) (counts : List ℕ) → lines_from net state (A ++ counts ∷ []) ≡ lines_from net state A ++ line_after net (state_after net state A) counts ∷ []
+pub lines_more : (net : Network) (state : State) (A : List (List ℕ)) (counts : List ℕ) → lines_from net state (A ++ counts ∷ []) ≡ lines_from net state A ++ line_after net (state_after net state A) counts ∷ []
 lines_more net state [] counts = refl
 lines_more net state (a ∷ A) counts = ap (λ ls. line_after net state a ∷ ls) (lines_more net (advance net a state) A counts)
 

@@ -13,10 +13,10 @@ ghost use Rattle.mp_run.specs.Running.{EndsAs, StaysWithin, TakesLine, Finishes}
 use arrayvec::ArrayVec;
 use mp_drift::Session;
 use mp_edge::{Failed, Sink, Source};
-use mp_log::{StreamLine, put_end, put_period, read_line};
+use mp_log::{StreamLine, put_end, put_period_in, read_line};
 use mp_net::LinkNo;
 use mp_step::AboveAt;
-use mp_text::{LineCutter, LineStep};
+use mp_text::{LineCutter, LineSink, LineStep};
 
 /// The greatest number of lines of a stream.
 const LINE_LIMIT: u64 = 1 << 48;
@@ -55,6 +55,7 @@ fn close_period<Out: Sink>(
     session: &mut Session,
     line: u64,
     arrivals: &[u64],
+    text: &mut LineSink,
     out: &mut Out,
 ) -> Option<RunEnd>
     requires counts { HasCounts session.old.net arrivals.now }
@@ -74,7 +75,7 @@ fn close_period<Out: Sink>(
         Ok(()) => {
             let state = session.state();
             let stages = session.stages();
-            match put_period(out, state.period(), arrivals, stages, state.queues()) {
+            match put_period_in(text, out, state.period(), arrivals, stages, state.queues()) {
                 Ok(()) => None,
                 Err(Failed) => Some(RunEnd::Write),
             }
@@ -88,6 +89,7 @@ fn take_line<Out: Sink>(
     line: &[u8],
     number: u64,
     arrivals: &mut ArrayVec<u64, 128>,
+    text: &mut LineSink,
     out: &mut Out,
 ) -> Option<RunEnd>
     requires period { session.old.at.period < 2 ^ 48 }
@@ -100,7 +102,7 @@ fn take_line<Out: Sink>(
     match read_line(session.net(), line, arrivals) {
         StreamLine::Skipped => None,
         StreamLine::Bad => Some(RunEnd::Grammar { line: number }),
-        StreamLine::Arrivals => close_period(session, number, arrivals, out),
+        StreamLine::Arrivals => close_period(session, number, arrivals, text, out),
     }
 }
 
@@ -151,11 +153,19 @@ pub fn run_stream<In: Source, Out: Sink>(
     let _ = session.state();
     let mut cutter = LineCutter::<2049>::new();
     let mut arrivals = ArrayVec::new();
+    let mut text = LineSink::new();
     for turn in 0..LINE_LIMIT {
         match cutter.next(input) {
             LineStep::Line => {
                 let line = cutter.line();
-                if let Some(end) = take_line(session, line, turn + 1, &mut arrivals, out) {
+                if let Some(end) = take_line(
+                    session,
+                    line,
+                    turn + 1,
+                    &mut arrivals,
+                    &mut text,
+                    out,
+                ) {
                     return end;
                 }
             }

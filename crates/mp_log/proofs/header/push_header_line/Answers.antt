@@ -1,7 +1,7 @@
 use Rattle.std.proofs.Common.{◌-◌, ◌∙◌, sym, arith}
 use Rattle.mp_log.specs.Heading.{excess, denominator, unsigned}
 use Rattle.mp_log.proofs.HeaderLemmas.{bound_at}
-use Rattle.mp_log.proofs.header.push_header.Goals as goal
+use Rattle.mp_log.proofs.header.push_header_line.Goals as goal
 
 pub returns-else-i-eq2-clause-held : goal.returns-else-i-eq2-clause-held
 returns-else-i-eq2-clause-held c =

@@ -1,0 +1,283 @@
+//! The audit of a log.
+ghost use Rattle.std.specs.Prelude.{◌≡◌, ◌≢◌, ◌≤◌, ◌<◌, ◌+◌, ◌++◌, ◌^◌, ℕ, List, [], length, All, Option, None, Some, MatchOption, MatchBool};
+ghost use Rattle.mp_edge.specs.Outside.{Tells, Rose};
+ghost use Rattle.mp_model.specs.Arrivals.{HasCounts};
+ghost use Rattle.mp_model.specs.Log.{header_lines};
+ghost use Rattle.mp_model.specs.Run.{opening};
+ghost use Rattle.mp_text.specs.Buffered.{MOST_BYTES};
+ghost use Rattle.mp_log.specs.Heading.{excess, denominator};
+ghost use Rattle.mp_press.specs.Queues.{naturals};
+ghost use Rattle.mp_step.specs.Standing.{Stands};
+ghost use Rattle.mp_step.specs.Taken.{HasTaken};
+ghost use Rattle.mp_run.specs.Auditing.{AuditsAs, HasSeen, Compares, ClosesLogged, RefutesCounts, GivesCounts, EndsLogged, RefutesEnd, TakesLogged, MovesOn, TakesNext, EndsAfter};
+
+use arrayvec::ArrayVec;
+use mp_drift::Session;
+use mp_edge::Source;
+use mp_log::{header_lines, push_end, push_header_line, push_period, read_arrivals};
+use mp_text::{LineCutter, LineSink, LineStep};
+
+/// The greatest number of periods of a log.
+const PERIOD_LIMIT: u64 = 1 << 48;
+
+/// The size of a buffer for lines of at most 16,384 bytes.
+const LINE_SIZE: usize = 16_385;
+
+/// How an audit ends. Lines are numbered from 1, and all lines count.
+#[derive(Clone, Copy, Debug, PartialEq, Eq)]
+pub enum AuditEnd {
+    /// The input is the whole log of a run of this many periods.
+    Done { periods: u64 },
+    /// The line is the first that is not the log's; where one is missing, that after the last.
+    Differs { line: u64 },
+    /// The source met a fault.
+    Read,
+}
+
+// What the next line is beside a wanted one.
+enum Compared {
+    Same,
+    // Another line, or none.
+    Other,
+    // The source met a fault.
+    Failed,
+}
+
+// What the next line behind the header is.
+enum Logged {
+    // The line of the next period, which was closed.
+    Period,
+    // The end line.
+    End,
+    // A line that may not follow, or none.
+    Other,
+    // The source met a fault.
+    Failed,
+}
+
+fn is_same(a: &[u8], b: &[u8]) -> bool
+    ensures { MatchBool result (a.now ≡ b.now) (a.now ≢ b.now) }
+{
+    a == b
+}
+
+// Takes the next line, and compares it with the wanted one.
+fn compare_next<In: Source>(
+    input: &mut In,
+    cutter: &mut LineCutter<LINE_SIZE>,
+    wanted: &[u8],
+) -> Compared
+    requires { length wanted.now < MOST_BYTES }
+    ensures told { Tells (In.left input.old) (In.left input.new) (Compares wanted.now result cutter.old cutter.new) }
+    ensures later { In.faults input.old ≤ In.faults input.new }
+    ensures failed { result ≡ Compared.Failed → Rose (In.faults input.old) (In.faults input.new) }
+{
+    match cutter.next(input) {
+        LineStep::Line => {
+            if is_same(cutter.line(), wanted) {
+                Compared::Same
+            } else {
+                Compared::Other
+            }
+        }
+        LineStep::End => Compared::Other,
+        LineStep::TooLong => Compared::Other,
+        LineStep::Failed => Compared::Failed,
+    }
+}
+
+// Compares the first lines of the input with the header, and gives the end of the audit at another line.
+fn audit_header<In: Source>(
+    session: &Session,
+    input: &mut In,
+    cutter: &mut LineCutter<LINE_SIZE>,
+    wanted: &mut LineSink,
+) -> Option<AuditEnd>
+    requires { cutter.old.held ≡ [] }
+    ensures ends { MatchOption result (HasSeen (header_lines session.now.net (excess session.now.slack) (denominator session.now.slack) (naturals session.now.bounds)) (In.left input.old) (In.left input.new) cutter.new.held) (λ end. AuditsAs session.now.net (excess session.now.slack) (denominator session.now.slack) (naturals session.now.bounds) end (In.left input.old) (In.left input.new)) }
+    ensures later { In.faults input.old ≤ In.faults input.new }
+    ensures read { result ≡ Some AuditEnd.Read → Rose (In.faults input.old) (In.faults input.new) }
+{
+    let _ = session.state();
+    let net = session.net();
+    for i in 0..header_lines(net) {
+        wanted.clear();
+        push_header_line(wanted, net, session.slack(), session.bounds(), i + 1);
+        match compare_next(input, cutter, wanted.bytes()) {
+            Compared::Same => {}
+            Compared::Other => return Some(AuditEnd::Differs {
+                line: u64::from(i) + 1,
+            }),
+            Compared::Failed => return Some(AuditEnd::Read),
+        }
+    }
+    None
+}
+
+// Reads the arrivals of the next period off its line.
+fn next_arrivals(session: &Session, line: &[u8], arrivals: &mut ArrayVec<u64, 128>) -> bool
+    ensures { MatchBool result (GivesCounts session.now.net session.now.at line.now arrivals.new.items) ((counts : List ℕ) → ¬ GivesCounts session.now.net session.now.at line.now counts) }
+{
+    let net = session.net();
+    let period = session.state().period();
+    if period == PERIOD_LIMIT {
+        return false;
+    }
+    read_arrivals(line, period + 1, net.fed().len(), arrivals).is_some()
+}
+
+// Closes the next period with these arrivals, and says whether the line is that of the period.
+fn is_period(session: &mut Session, line: &[u8], arrivals: &[u64], wanted: &mut LineSink) -> bool
+    requires counts { HasCounts session.old.net arrivals.now }
+    requires digits { All (λ a. a < 10 ^ 9) arrivals.now }
+    requires period { session.old.at.period < 2 ^ 48 }
+    ensures closes { MatchBool result ((session.new.at.period ≡ session.old.at.period + 1) × ClosesLogged session.old.net line.now arrivals.now session.old.at session.new.at) (RefutesCounts session.old.net line.now arrivals.now session.old.at) }
+    ensures same { session.new ≡ record session.old { at = session.new.at; stages = session.new.stages } }
+{
+    if session.period(arrivals).is_err() {
+        return false;
+    }
+    let state = session.state();
+    let stages = session.stages();
+    wanted.clear();
+    push_period(wanted, state.period(), arrivals, stages, state.queues());
+    is_same(line, wanted.bytes())
+}
+
+// Says whether the line is the end line.
+fn is_end(session: &Session, line: &[u8], wanted: &mut LineSink) -> bool
+    ensures { MatchBool result (EndsLogged session.now.net session.now.at line.now) (RefutesEnd session.now.net session.now.at line.now) }
+{
+    let state = session.state();
+    let queued = state.total_in() - state.total_out();
+    wanted.clear();
+    push_end(
+        wanted,
+        state.period(),
+        state.total_in(),
+        state.total_out(),
+        queued,
+    );
+    is_same(line, wanted.bytes())
+}
+
+// Takes a line behind the header. The arrivals and the line that is wanted go into buffers.
+fn take_logged(
+    session: &mut Session,
+    line: &[u8],
+    arrivals: &mut ArrayVec<u64, 128>,
+    wanted: &mut LineSink,
+) -> Logged
+    ensures takes { TakesLogged session.old.net line.now result session.old.at session.new.at }
+    ensures same { session.new ≡ record session.old { at = session.new.at; stages = session.new.stages } }
+{
+    let _ = session.net().shares();
+    if next_arrivals(session, line, arrivals) {
+        if is_period(session, line, arrivals, wanted) {
+            Logged::Period
+        } else {
+            Logged::Other
+        }
+    } else if is_end(session, line, wanted) {
+        Logged::End
+    } else {
+        Logged::Other
+    }
+}
+
+// Takes the next line behind the header.
+fn take_next<In: Source>(
+    session: &mut Session,
+    input: &mut In,
+    cutter: &mut LineCutter<LINE_SIZE>,
+    arrivals: &mut ArrayVec<u64, 128>,
+    wanted: &mut LineSink,
+) -> Logged
+    ensures takes { Tells (In.left input.old) (In.left input.new) (TakesNext session.old.net result session.old.at cutter.old cutter.new) }
+    ensures moves { MovesOn session.old.net cutter.new.line result session.old.at session.new.at }
+    ensures same { session.new ≡ record session.old { at = session.new.at; stages = session.new.stages } }
+    ensures later { In.faults input.old ≤ In.faults input.new }
+    ensures failed { result ≡ Logged.Failed → Rose (In.faults input.old) (In.faults input.new) }
+{
+    let _ = session.state();
+    match cutter.next(input) {
+        LineStep::Line => take_logged(session, cutter.line(), arrivals, wanted),
+        LineStep::End => Logged::Other,
+        LineStep::TooLong => Logged::Other,
+        LineStep::Failed => Logged::Failed,
+    }
+}
+
+// Ends the audit behind the end line of a log of this many periods, where the next line has this number.
+fn finish_audit<In: Source>(
+    input: &mut In,
+    cutter: &mut LineCutter<LINE_SIZE>,
+    periods: u64,
+    line: u64,
+) -> AuditEnd
+    ensures ends { Tells (In.left input.old) (In.left input.new) (EndsAfter periods line result cutter.old) }
+    ensures later { In.faults input.old ≤ In.faults input.new }
+    ensures read { result ≡ AuditEnd.Read → Rose (In.faults input.old) (In.faults input.new) }
+{
+    match cutter.next(input) {
+        LineStep::End => AuditEnd::Done { periods },
+        LineStep::Line => AuditEnd::Differs { line },
+        LineStep::TooLong => AuditEnd::Differs { line },
+        LineStep::Failed => AuditEnd::Read,
+    }
+}
+
+// Audits the lines behind the header.
+fn audit_periods<In: Source>(
+    session: &mut Session,
+    input: &mut In,
+    cutter: &mut LineCutter<LINE_SIZE>,
+    wanted: &mut LineSink,
+) -> AuditEnd
+    requires start { Stands session.old.net session.old.at (opening session.old.net) }
+    requires taken { HasTaken session.old.net session.old.at [] }
+    ensures ends { (whole : Option (List ℕ)) → HasSeen (header_lines session.old.net (excess session.old.slack) (denominator session.old.slack) (naturals session.old.bounds)) whole (In.left input.old) cutter.old.held → AuditsAs session.old.net (excess session.old.slack) (denominator session.old.slack) (naturals session.old.bounds) result whole (In.left input.new) }
+    ensures same { session.new ≡ record session.old { at = session.new.at; stages = session.new.stages } }
+    ensures later { In.faults input.old ≤ In.faults input.new }
+    ensures read { result ≡ AuditEnd.Read → Rose (In.faults input.old) (In.faults input.new) }
+{
+    let header = u64::from(header_lines(session.net()));
+    let mut arrivals = ArrayVec::new();
+    loop {
+        let period = session.state().period();
+        let line = header + period + 1;
+        match take_next(session, input, cutter, &mut arrivals, wanted) {
+            Logged::Period => {}
+            Logged::End => return finish_audit(input, cutter, period, line + 1),
+            Logged::Other => return AuditEnd::Differs { line },
+            Logged::Failed => return AuditEnd::Read,
+        }
+    }
+}
+
+/// Compares the input with the log of a run of this session over permitted arrivals, which are those
+/// that the lines of the periods give: the header of the session's slack and bounds, a line per period
+/// with the stages of greatest pressure and the queues after it, and the end line.
+///
+/// `Done` comes exactly where the input is such a log as a whole, of at most 2^48 periods. `Differs` names
+/// the first line that is not the log's: also a line of more than 16,384 bytes, one that gives arrivals
+/// above a bucket, one behind the end line, and the missing one behind the last. `Read` comes only with a
+/// fault of the source.
+///
+/// The session is one that was just opened, and it keeps its network, slack and bounds. The audit takes
+/// no memory, and reads the input once.
+pub fn audit<In: Source>(session: &mut Session, input: &mut In) -> AuditEnd
+    requires start { Stands session.old.net session.old.at (opening session.old.net) }
+    requires taken { HasTaken session.old.net session.old.at [] }
+    ensures ends { AuditsAs session.old.net (excess session.old.slack) (denominator session.old.slack) (naturals session.old.bounds) result (In.left input.old) (In.left input.new) }
+    ensures same { session.new ≡ record session.old { at = session.new.at; stages = session.new.stages } }
+    ensures in_later { In.faults input.old ≤ In.faults input.new }
+    ensures read { result ≡ AuditEnd.Read → Rose (In.faults input.old) (In.faults input.new) }
+{
+    let mut cutter = LineCutter::<LINE_SIZE>::new();
+    let mut wanted = LineSink::new();
+    if let Some(end) = audit_header(session, input, &mut cutter, &mut wanted) {
+        return end;
+    }
+    audit_periods(session, input, &mut cutter, &mut wanted)
+}
