@@ -1,0 +1,59 @@
+//! The run of a demonstration.
+ghost use Rattle.std.specs.Prelude.{◌≡◌, ◌≤◌, ◌<◌, ◌+◌, ◌^◌, ℕ, List, []};
+ghost use Rattle.mp_model.specs.Run.{opening};
+ghost use Rattle.mp_press.specs.Queues.{naturals};
+ghost use Rattle.mp_step.specs.Standing.{Stands};
+ghost use Rattle.mp_step.specs.Taken.{HasTaken};
+ghost use Rattle.mp_gen.specs.Greatest.{greatest_of};
+ghost use Rattle.mp_gen.specs.DemoNetwork.{demo_network};
+ghost use Rattle.mp_gen.specs.Demonstration.{Demonstrated, ClosesNext};
+
+use crate::DemoArrivals;
+use crate::greatest::greatest_of;
+use arrayvec::ArrayVec;
+use mp_drift::Session;
+use mp_step::AboveAt;
+
+/// The number of periods of a demonstration.
+pub const PERIODS: u32 = 1 << 20;
+
+// Closes one period with the next arrivals, for which `counts` is room. The buckets accept them.
+fn next_period(session: &mut Session, arrivals: &mut DemoArrivals, counts: &mut ArrayVec<u64, 128>)
+    requires taken { (A : List (List ℕ)) × HasTaken session.old.net session.old.at A }
+    requires period { session.old.at.period < 2 ^ 48 }
+    ensures closes { ClosesNext session.old.net session.old.at session.new.at arrivals.old arrivals.new }
+    ensures same { session.new ≡ record session.old { at = session.new.at; stages = session.new.stages } }
+    ensures period { session.new.at.period ≡ session.old.at.period + 1 }
+{
+    arrivals.fill(session, counts);
+    match session.period(counts) {
+        Ok(()) => {}
+        Err(AboveAt { .. }) => unreachable!(),
+    }
+}
+
+/// Closes 2^20 periods with the arrivals of this demonstration, each junction showing its stage of
+/// greatest pressure, and answers the greatest queue after any period, in vehicles: at most the
+/// greatest bound.
+///
+/// The session is one that was just opened, over the network of this demonstration, and it keeps its
+/// network, slack and bounds. The run takes no memory.
+pub fn demonstrate(session: &mut Session, n: u64) -> u128
+    requires network { session.old.net ≡ demo_network n }
+    requires start { Stands session.old.net session.old.at (opening session.old.net) }
+    requires taken { HasTaken session.old.net session.old.at [] }
+    ensures shown { Demonstrated session.old.net n session.new.at result }
+    ensures bounded { result ≤ greatest_of (naturals session.old.bounds) }
+    ensures same { session.new ≡ record session.old { at = session.new.at; stages = session.new.stages } }
+{
+    // A session's state comes with what the session keeps.
+    let _state = session.state();
+    let mut arrivals = DemoArrivals::new(n);
+    let mut counts = ArrayVec::new();
+    let mut greatest = 0;
+    for _turn in 0..PERIODS {
+        next_period(session, &mut arrivals, &mut counts);
+        greatest = greatest_of(session.state().queues()).max(greatest);
+    }
+    greatest
+}
