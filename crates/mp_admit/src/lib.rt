@@ -14,4 +14,5 @@ mod turns;
 mod vector;
 mod verdict;
 
+pub use crate::junction::optimum_at;
 pub use crate::verdict::{Verdict, admit};

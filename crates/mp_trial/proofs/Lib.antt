@@ -1,0 +1,10 @@
+pub mod Rounding
+pub mod Halving
+pub mod Bounds
+pub mod Least
+pub mod Programs
+pub mod Served
+pub mod Fitting
+pub mod Unfitness
+pub mod Searching
+pub mod Computed

@@ -1,0 +1,5 @@
+pub mod Sweeps
+pub mod Trials
+pub mod Search
+pub mod Laws
+pub mod WorkedScales
