@@ -1,45 +1,56 @@
 -- What the words of the command line ask for.
-use Rattle.std.specs.Prelude.{ℕ, Bool, if◌then◌else◌, List, [], ◌∷◌, codes, nat_eq}
+use Rattle.std.specs.Prelude.{◌≤◌, ◌<◌, ◌^◌, ℕ, zero, suc, Bool, if◌then◌else◌, List, [], ◌∷◌, codes, nat_eq, Option, Some, None}
 use Rattle.std.specs.Cmp.Lexicographic.{pointwise}
+use Rattle.mp_model.specs.Stream.{count_of}
 use Rattle.mp_cli.specs.declared.command.Command.{Command}
-use Rattle.mp_cli.specs.declared.command.Command.TheVariants.{Run, RunWith, Show, Certify, Check, Refute, Unknown}
+use Rattle.mp_cli.specs.declared.command.Command.TheVariants.{Run, RunWith, Show, Certify, Check, Refute, Audit, Demo, Scale, Unknown}
 
--- The word is `run`.
-abbrev pub is_run : List ℕ → Bool
-is_run word = pointwise nat_eq word (codes "run")
+-- The word is the one that is listed.
+abbrev pub is_word : List ℕ → List ℕ → Bool
+is_word word listed = pointwise nat_eq word listed
 
--- The word is `runwith`.
-abbrev pub is_runwith : List ℕ → Bool
-is_runwith word = pointwise nat_eq word (codes "runwith")
+-- A demonstration is asked for by a count.
+abbrev pub demo_with : Option ℕ → Command
+demo_with (Some n) = Demo n
+demo_with None = Unknown
 
--- The word is `show`.
-abbrev pub is_show : List ℕ → Bool
-is_show word = pointwise nat_eq word (codes "show")
+-- This is the demonstration of a number.
+abbrev pub demo_of : List ℕ → Command
+demo_of number = demo_with (count_of number)
 
--- The word is `certify`.
-abbrev pub is_certify : List ℕ → Bool
-is_certify word = pointwise nat_eq word (codes "certify")
+-- A scaling is asked for by a count of at least 1.
+abbrev pub scale_with : Option ℕ → Command
+scale_with (Some zero) = Unknown
+scale_with (Some (suc n)) = Scale (suc n)
+scale_with None = Unknown
 
--- The word is `check`.
-abbrev pub is_check : List ℕ → Bool
-is_check word = pointwise nat_eq word (codes "check")
+-- This is the scaling to a denominator.
+abbrev pub scale_of : List ℕ → Command
+scale_of denominator = scale_with (count_of denominator)
 
--- The word is `refute`.
-abbrev pub is_refute : List ℕ → Bool
-is_refute word = pointwise nat_eq word (codes "refute")
+-- A word asks for a command with the name of a network, or with a number.
+unfoldable pub command_on_net : List ℕ → List ℕ → Command
+command_on_net word name =
+    if is_word word (codes "run") then Run
+    else if is_word word (codes "show") then Show
+    else if is_word word (codes "certify") then Certify
+    else if is_word word (codes "audit") then Audit
+    else if is_word word (codes "demo") then demo_of name
+    else Unknown
 
--- A word before the name of a network asks for a command.
-abbrev pub command_on_net : List ℕ → Command
-command_on_net word = if is_run word then Run else if is_show word then Show else if is_certify word then Certify else Unknown
+-- A word asks for a command with the name of a network and that of another file, or with a number.
+unfoldable pub command_on_both : List ℕ → List ℕ → Command
+command_on_both word other =
+    if is_word word (codes "runwith") then RunWith
+    else if is_word word (codes "check") then Check
+    else if is_word word (codes "refute") then Refute
+    else if is_word word (codes "scale") then scale_of other
+    else Unknown
 
--- A word before the name of a network and that of another file asks for a command.
-abbrev pub command_on_both : List ℕ → Command
-command_on_both word = if is_runwith word then RunWith else if is_check word then Check else if is_refute word then Refute else Unknown
-
--- The listed words are a word and the name of a network, or a word and the names of a network and of another file.
+-- The listed words are a word with a name or a number, or a word with the name of a network and another name or a number.
 abbrev pub command_of : List (List ℕ) → Command
-command_of (word ∷ name ∷ []) = command_on_net word
-command_of (word ∷ name ∷ other ∷ []) = command_on_both word
+command_of (word ∷ name ∷ []) = command_on_net word name
+command_of (word ∷ name ∷ other ∷ []) = command_on_both word other
 command_of words = Unknown
 
 -- This is the name of the network file.
@@ -51,3 +62,8 @@ name_of words = []
 abbrev pub other_of : List (List ℕ) → List ℕ
 other_of (word ∷ name ∷ other ∷ words) = other
 other_of words = []
+
+-- The denominator of a scaling is at least 1 and has at most 9 digits.
+abbrev pub HasDenominator : Command → Type 0
+HasDenominator (Scale d) = (1 ≤ d) × (d < 10 ^ 9)
+HasDenominator command = Unit {0}

@@ -4,6 +4,7 @@ pub mod Messages
 pub mod Ends
 pub mod Others
 pub mod Runs
+pub mod Audits
 pub mod Opening
 pub mod Outcomes
 pub mod Complete

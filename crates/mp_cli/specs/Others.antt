@@ -13,11 +13,15 @@ use Rattle.mp_cert.specs.Texts.{cert_text}
 use Rattle.mp_cert.specs.Weighing.{weighed}
 use Rattle.mp_cert.specs.declared.types.CertFault.{CertFault}
 use Rattle.mp_num.specs.Fraction.{Fraction}
+use Rattle.mp_trial.specs.Search.{scaled, Found, NoneAt, HasGreatestExcess, HasNone}
 use Rattle.mp_verdict.specs.Laws.{IsAdmitted}
-use Rattle.mp_verdict.specs.Stated.{Reached}
-use Rattle.mp_verdict.specs.Verdict.{verdict, Admitted, Critical, Overloaded}
+use Rattle.mp_verdict.specs.Stated.{Reached, PassesAt, LimitAt}
+use Rattle.mp_verdict.specs.Verdict.{verdict, Admitted}
+use Rattle.mp_verdict.specs.Verdict as judged
+use Rattle.mp_cli.specs.declared.outcome.Outcome.{Outcome}
+use Rattle.mp_cli.specs.declared.outcome.Outcome.TheVariants.{Critical, Overloaded, Overflow, PivotLimit, NoMemory}
 use Rattle.mp_cli.specs.declared.command.Command.{Command}
-use Rattle.mp_cli.specs.declared.command.Command.TheVariants.{Run, RunWith, Certify, Check, Refute}
+use Rattle.mp_cli.specs.declared.command.Command.TheVariants.{RunWith, Check, Refute, Demo, Unknown}
 
 -- The files are told as names and bytes, or not at all.
 abbrev pub Files : Type 0
@@ -41,11 +45,11 @@ TakesCert RunWith = Unit {0}
 TakesCert Check = Unit {0}
 TakesCert command = ⊥
 
--- The command asks for the verdict on the network.
-abbrev pub AsksVerdict : Command → Type 0
-AsksVerdict Run = Unit {0}
-AsksVerdict Certify = Unit {0}
-AsksVerdict command = ⊥
+-- The command is on the network of a file.
+abbrev pub NamesFile : Command → Type 0
+NamesFile (Demo n) = ⊥
+NamesFile Unknown = ⊥
+NamesFile command = Unit {0}
 
 -- A fact of the certificate holds where the files are not told, or the file of that name is the text of one for the network and the fact is true of it.
 abbrev pub OfCert : Network → Files → List ℕ → (Cert → Type 0) → Type 0
@@ -106,6 +110,18 @@ pub record IsWeak (net : Network) (p : List ℤ) : Type 0 where
   pub vector : IsVector net (numbers p)
   pub below : load net (entry (numbers p)) < net.per * capacity net (entry (numbers p))
 
+-- A certificate over a denominator has the greatest excess of all those of the network over it, as the stated calculation finds, and its text was written as said.
+pub record IsScaled (net : Network) (D : ℕ) (IsWritten : List ℕ → Type 0) : Type 0 where
+  pub cert : Cert
+  pub reached : scaled net D ≡ Found cert
+  pub greatest : HasGreatestExcess net D cert
+  pub written : IsWritten (cert_text cert)
+
+-- A network has no certificate over a denominator, as the stated calculation finds.
+pub record IsUnscaled (net : Network) (D : ℕ) : Type 0 where
+  pub reached : scaled net D ≡ NoneAt
+  pub none : HasNone net D
+
 -- A network is certified: by the stated calculation it is admitted with a certificate, whose slack is the greatest, and the certificate's text was written as said.
 pub record IsCertified (net : Network) (IsWritten : List ℕ → Type 0) : Type 0 where
   pub cert : Cert
@@ -117,12 +133,28 @@ pub record IsCertified (net : Network) (IsWritten : List ℕ → Type 0) : Type 
 
 -- A network is critical, as the vector of the stated calculation shows.
 pub record IsShownCritical (net : Network) (vector : List ℤ) : Type 0 where
-  pub reached : verdict net (weighed net) ≡ Reached (Critical vector)
+  pub reached : verdict net (weighed net) ≡ Reached (judged.Critical vector)
   pub tight : IsTight net (numbers vector)
   pub critical : IsCritical net
 
 -- A network is overloaded, as the vector of the stated calculation shows, and so does not carry its rates.
 pub record IsShownOverloaded (net : Network) (vector : List ℤ) : Type 0 where
-  pub reached : verdict net (weighed net) ≡ Reached (Overloaded vector)
+  pub reached : verdict net (weighed net) ≡ Reached (judged.Overloaded vector)
   pub shows : ShowsOverload net (numbers vector)
   pub none : ¬ Carries net
+
+-- The stated calculation does not admit the network: it is critical or overloaded, or a calculation passes 128 bits or comes to its limit of turns, or memory was wanting.
+abbrev pub IsUnadmitted : Outcome → Network → Type 0
+IsUnadmitted (Critical against) net = IsShownCritical net against.p
+IsUnadmitted (Overloaded against) net = IsShownOverloaded net against.p
+IsUnadmitted (Overflow place) net = verdict net (weighed net) ≡ PassesAt place
+IsUnadmitted (PivotLimit j) net = verdict net (weighed net) ≡ LimitAt j
+IsUnadmitted NoMemory net = Unit {0}
+IsUnadmitted outcome net = ⊥
+
+-- The stated calculation admits the network with this certificate, whose slack is the greatest.
+pub record IsAdmittedWith (net : Network) (cert : Cert) : Type 0 where
+  pub vector : List ℤ
+  pub slack : Fraction
+  pub reached : verdict net (weighed net) ≡ Reached (Admitted cert vector slack)
+  pub admitted : IsAdmitted net cert vector slack

@@ -8,10 +8,12 @@ use Rattle.mp_flow.specs.declared.network.CalcFault.TheVariants as calc
 use Rattle.mp_flow.specs.declared.network.Place.TheVariants as at
 use Rattle.mp_drift.specs.declared.session.OpenFault.{OpenFault}
 use Rattle.mp_drift.specs.declared.session.OpenFault.TheVariants as opening
+use Rattle.mp_scaled.specs.declared.fault.ScaleFault.{ScaleFault}
+use Rattle.mp_scaled.specs.declared.fault.ScaleFault.TheVariants as scaling
 use Rattle.mp_run.specs.declared.run.RunEnd.{RunEnd}
 use Rattle.mp_run.specs.declared.run.RunEnd.TheVariants as end
 use Rattle.mp_cli.specs.declared.outcome.Outcome.{Outcome}
-use Rattle.mp_cli.specs.declared.outcome.Outcome.TheVariants.{Done, Certificate, Overflow, PivotLimit, Long, Grammar, Above, LineLimit, Read, Write, NoMemory}
+use Rattle.mp_cli.specs.declared.outcome.Outcome.TheVariants.{Done, Certificate, Overflow, PivotLimit, SweepLimit, Long, Grammar, Above, LineLimit, Read, Write, NoMemory}
 
 -- This is the outcome of a run's end.
 abbrev pub outcome_of : RunEnd → Outcome
@@ -39,6 +41,13 @@ abbrev pub outcome_of_opening : OpenFault → Outcome
 outcome_of_opening (opening.Cert broken) = outcome_of_fault broken
 outcome_of_opening (opening.Calc broken) = outcome_of_calculation broken
 outcome_of_opening opening.NoMemory = NoMemory
+
+-- This is the outcome of a search over a denominator that has no result.
+abbrev pub outcome_of_scaling : ScaleFault → Outcome
+outcome_of_scaling (scaling.Sweeps e) = SweepLimit e
+outcome_of_scaling (scaling.Overflow j) = Overflow (at.Game j)
+outcome_of_scaling (scaling.PivotLimit j) = PivotLimit j
+outcome_of_scaling scaling.NoMemory = NoMemory
 
 -- This is the word for a vector whose load is at least what is served.
 abbrev pub word_of : Weighed → List ℕ

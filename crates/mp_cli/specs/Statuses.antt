@@ -1,7 +1,7 @@
 -- The status of each outcome.
 use Rattle.std.specs.Prelude.{ℕ}
 use Rattle.mp_cli.specs.declared.outcome.Outcome.{Outcome}
-use Rattle.mp_cli.specs.declared.outcome.Outcome.TheVariants.{Done, Words, Store, Network, LongText, Text, Critical, Overloaded, Certificate, ZeroVector, WeakVector, Overflow, PivotLimit, Long, Grammar, Above, LineLimit, Read, Write, NoMemory}
+use Rattle.mp_cli.specs.declared.outcome.Outcome.TheVariants.{Done, Words, Store, Network, LongText, Text, Critical, Overloaded, Certificate, ZeroVector, WeakVector, NoCertificate, Overflow, PivotLimit, SweepLimit, Long, Grammar, Above, LineLimit, Differs, Read, Write, NoMemory}
 
 -- This is the status of an outcome.
 abbrev pub status_of : Outcome → ℕ
@@ -16,6 +16,7 @@ status_of (Overloaded against) = 4
 status_of (Certificate fault) = 4
 status_of ZeroVector = 4
 status_of WeakVector = 4
+status_of NoCertificate = 4
 status_of (Overflow place) = 5
 status_of (PivotLimit j) = 6
 status_of (Long n) = 7
@@ -25,3 +26,5 @@ status_of LineLimit = 9
 status_of Read = 10
 status_of Write = 11
 status_of NoMemory = 12
+status_of (Differs n) = 13
+status_of (SweepLimit e) = 15

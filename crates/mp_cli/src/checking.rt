@@ -1,16 +1,15 @@
 //! The commands on certificates, and on vectors against the network.
 ghost use Rattle.std.specs.Prelude.{◌≡◌, ◌≤◌, ◌↔◌, ℕ, List, Option, IsTrue, length, unsigned_abs, int_lt};
 ghost use Rattle.mp_edge.specs.Outside.{Rose, Tells, Puts, HasCause};
-ghost use Rattle.mp_cli.specs.Outcomes.{outcome_of_fault, word_of};
+ghost use Rattle.mp_cli.specs.Outcomes.{word_of};
 ghost use Rattle.mp_cli.specs.Ends.{Acts};
 ghost use Rattle.mp_cli.specs.Others.{Files, accepted_line, sums_line, IsZero};
 
 use crate::command::Command;
 use crate::opening::{open_cert, open_vector};
 use crate::outcome::{FileRole, Outcome};
-use crate::running::outcome_of_calculation;
-use mp_admit::{Verdict, admit};
-use mp_cert::{CertFault, Weighed, print_cert, slack, weigh};
+use crate::session::{admitted, outcome_of_fault};
+use mp_cert::{Weighed, print_cert, slack, weigh};
 use mp_edge::{Failed, Sink, Store};
 use mp_flow::Place;
 use mp_log::{push_number, push_text};
@@ -61,16 +60,6 @@ fn put_verdict<Out: Sink>(out: &mut Out, sums: Weighed) -> Result<(), Failed>
     }
 }
 
-/// The outcome of a certificate that is not accepted.
-pub fn outcome_of_fault(fault: CertFault) -> Outcome
-    ensures { result ≡ outcome_of_fault fault }
-{
-    match fault {
-        CertFault::Overflow => Outcome::Overflow(Place::Certificate),
-        _ => Outcome::Certificate(fault),
-    }
-}
-
 // All numbers are 0.
 fn is_zero(p: &[i128]) -> bool
     ensures { IsTrue result ↔ IsZero p.now }
@@ -91,16 +80,13 @@ pub fn certify<Out: Sink>(alloc: Global, net: &Net, out: &mut Out) -> Outcome
     ensures later { Out.faults out.old ≤ Out.faults out.new }
     ensures write { result ≡ Outcome.Write → Rose (Out.faults out.old) (Out.faults out.new) }
 {
-    // A network's share total comes with what its rules say.
-    let _ = net.shares();
-    match admit(alloc, net) {
-        Ok(Verdict::Admitted { cert, .. }) => match print_cert(out, &cert) {
-            Ok(()) => Outcome::Done,
-            Err(Failed) => Outcome::Write,
-        },
-        Ok(Verdict::Critical { against }) => Outcome::Critical(against),
-        Ok(Verdict::Overloaded { against }) => Outcome::Overloaded(against),
-        Err(fault) => outcome_of_calculation(fault),
+    let cert = match admitted(alloc, net) {
+        Ok(cert) => cert,
+        Err(outcome) => return outcome,
+    };
+    match print_cert(out, &cert) {
+        Ok(()) => Outcome::Done,
+        Err(Failed) => Outcome::Write,
     }
 }
 

@@ -1,6 +1,8 @@
 //! The words of the command line.
-ghost use Rattle.std.specs.Prelude.{◌≡◌, map, string_bytes};
-ghost use Rattle.mp_cli.specs.Commands.{command_of, command_on_net, command_on_both, is_run, is_runwith, is_show, is_certify, is_check, is_refute, name_of, other_of};
+ghost use Rattle.std.specs.Prelude.{◌≡◌, ℕ, map, string_bytes};
+ghost use Rattle.mp_cli.specs.Commands.{command_of, command_on_net, command_on_both, demo_of, scale_of, is_word, name_of, other_of, HasDenominator};
+
+use mp_text::read_count;
 
 /// What the words ask for.
 #[derive(Clone, Copy, Debug, PartialEq, Eq)]
@@ -17,71 +19,80 @@ pub enum Command {
     Check,
     /// `refute NET VECTOR`: the load and the capacity of a vector against the network.
     Refute,
+    /// `audit NET`: whether the input is a whole log of the network, or the first line that differs.
+    Audit,
+    /// `demo N`: a long run on a network of the program's own, by its number of at most 9 digits.
+    Demo(u64),
+    /// `scale NET D`: the greatest certificate with the denominator D, of at most 9 digits.
+    Scale(u32),
     /// Words that are not listed.
     Unknown,
 }
 
-fn is_run(word: &str) -> bool
-    ensures { result ≡ is_run word.now }
+// The word is the one that is listed.
+fn is_word(word: &str, listed: &str) -> bool
+    ensures { result ≡ is_word word.now listed.now }
 {
-    word == "run"
+    word == listed
 }
 
-fn is_runwith(word: &str) -> bool
-    ensures { result ≡ is_runwith word.now }
+// The demonstration of this number.
+fn demo_of(number: &str) -> Command
+    ensures value { result ≡ demo_of number.now }
+    ensures denominator { HasDenominator result }
 {
-    word == "runwith"
+    match read_count(number.as_bytes()) {
+        Some(n) => Command::Demo(n),
+        None => Command::Unknown,
+    }
 }
 
-fn is_show(word: &str) -> bool
-    ensures { result ≡ is_show word.now }
+// The scaling to this denominator, which is at least 1.
+fn scale_of(denominator: &str) -> Command
+    ensures value { result ≡ scale_of denominator.now }
+    ensures denominator { HasDenominator result }
 {
-    word == "show"
+    match read_count(denominator.as_bytes()) {
+        None | Some(0) => Command::Unknown,
+        Some(d) => Command::Scale(d as u32),
+    }
 }
 
-fn is_certify(word: &str) -> bool
-    ensures { result ≡ is_certify word.now }
+// The command that a word asks for with the name of a network, or with a number.
+#[tactic(auto, unfolding(crate::specs::Commands::command_on_net))]
+fn command_on_net(word: &str, name: &str) -> Command
+    ensures value { result ≡ command_on_net word.now name.now }
+    ensures denominator { HasDenominator result }
 {
-    word == "certify"
-}
-
-fn is_check(word: &str) -> bool
-    ensures { result ≡ is_check word.now }
-{
-    word == "check"
-}
-
-fn is_refute(word: &str) -> bool
-    ensures { result ≡ is_refute word.now }
-{
-    word == "refute"
-}
-
-// The command that a word and the name of a network ask for.
-fn command_on_net(word: &str) -> Command
-    ensures { result ≡ command_on_net word.now }
-{
-    if is_run(word) {
+    if is_word(word, "run") {
         Command::Run
-    } else if is_show(word) {
+    } else if is_word(word, "show") {
         Command::Show
-    } else if is_certify(word) {
+    } else if is_word(word, "certify") {
         Command::Certify
+    } else if is_word(word, "audit") {
+        Command::Audit
+    } else if is_word(word, "demo") {
+        demo_of(name)
     } else {
         Command::Unknown
     }
 }
 
-// The command that a word, the name of a network and the name of another file ask for.
-fn command_on_both(word: &str) -> Command
-    ensures { result ≡ command_on_both word.now }
+// The command that a word asks for with the name of a network and the name of another file, or a number.
+#[tactic(auto, unfolding(crate::specs::Commands::command_on_both))]
+fn command_on_both(word: &str, other: &str) -> Command
+    ensures value { result ≡ command_on_both word.now other.now }
+    ensures denominator { HasDenominator result }
 {
-    if is_runwith(word) {
+    if is_word(word, "runwith") {
         Command::RunWith
-    } else if is_check(word) {
+    } else if is_word(word, "check") {
         Command::Check
-    } else if is_refute(word) {
+    } else if is_word(word, "refute") {
         Command::Refute
+    } else if is_word(word, "scale") {
+        scale_of(other)
     } else {
         Command::Unknown
     }
@@ -89,11 +100,12 @@ fn command_on_both(word: &str) -> Command
 
 /// The command of the words.
 pub fn command_of(words: &[String]) -> Command
-    ensures { result ≡ command_of (map string_bytes words.now) }
+    ensures value { result ≡ command_of (map string_bytes words.now) }
+    ensures denominator { HasDenominator result }
 {
     match words {
-        [word, _] => command_on_net(word.as_str()),
-        [word, _, _] => command_on_both(word.as_str()),
+        [word, name] => command_on_net(word.as_str(), name.as_str()),
+        [word, _, other] => command_on_both(word.as_str(), other.as_str()),
         _ => Command::Unknown,
     }
 }

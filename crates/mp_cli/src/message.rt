@@ -155,11 +155,13 @@ fn push_message(line: &mut LineSink, outcome: &Outcome)
         }
         Outcome::ZeroVector => push_text(line, b"vector fails zero"),
         Outcome::WeakVector => push_text(line, b"vector fails weak"),
+        Outcome::NoCertificate => push_text(line, b"scale none"),
         Outcome::Overflow(place) => {
             push_text(line, b"overflow ");
             push_place(line, *place);
         }
         Outcome::PivotLimit(j) => push_numbered(line, b"pivots ", *j),
+        Outcome::SweepLimit(e) => push_numbered(line, b"sweeps ", *e),
         Outcome::Long { line: number } => {
             push_line(line, *number);
             push_text(line, b" long");
@@ -178,6 +180,10 @@ fn push_message(line: &mut LineSink, outcome: &Outcome)
             push_numbered(line, b" link ", *link);
         }
         Outcome::LineLimit => push_text(line, b"lines"),
+        Outcome::Differs { line: number } => {
+            push_text(line, b"log differs ");
+            push_line(line, *number);
+        }
         Outcome::Read => push_text(line, b"read"),
         Outcome::Write => push_text(line, b"write"),
         Outcome::NoMemory => push_text(line, b"memory"),

@@ -55,10 +55,14 @@ pub enum Outcome {
     ZeroVector,
     /// The load of the vector is below the capacity.
     WeakVector,
+    /// There is no certificate with the denominator that was asked for.
+    NoCertificate,
     /// A calculation passes 128 bits at this place.
     Overflow(Place),
-    /// The turns of the game end at this junction first.
+    /// The turns of the game, or of a junction's program, end at this junction first.
     PivotLimit(JunctionNo),
+    /// The trial of this excess is not at rest after its last sweep.
+    SweepLimit(u64),
     /// The line of the stream has more than 2,048 bytes.
     Long {
         line: u64,
@@ -76,6 +80,10 @@ pub enum Outcome {
     },
     /// The stream has more than 2^48 lines.
     LineLimit,
+    /// The line of the input is the first that differs from a log.
+    Differs {
+        line: u64,
+    },
     /// The input met a fault.
     Read,
     /// The output met a fault.
@@ -94,7 +102,8 @@ pub fn status_of(outcome: &Outcome) -> u8
         Outcome::Store(_) => 2,
         Outcome::Network { .. } | Outcome::LongText(_) | Outcome::Text { .. } => 3,
         Outcome::Critical(_) | Outcome::Overloaded(_) => 4,
-        Outcome::Certificate(_) | Outcome::ZeroVector | Outcome::WeakVector => 4,
+        Outcome::Certificate(_) | Outcome::NoCertificate => 4,
+        Outcome::ZeroVector | Outcome::WeakVector => 4,
         Outcome::Overflow(_) => 5,
         Outcome::PivotLimit(_) => 6,
         Outcome::Long { .. } | Outcome::Grammar { .. } => 7,
@@ -103,5 +112,7 @@ pub fn status_of(outcome: &Outcome) -> u8
         Outcome::Read => 10,
         Outcome::Write => 11,
         Outcome::NoMemory => 12,
+        Outcome::Differs { .. } => 13,
+        Outcome::SweepLimit(_) => 15,
     }
 }

@@ -1,17 +1,20 @@
 //! The top call.
 ghost use Rattle.std.specs.Prelude.{◌≡◌, ◌≤◌, ◌⊎◌, ◌↔◌, ℕ, List, Option, map, string_bytes};
 ghost use Rattle.mp_edge.specs.Outside.{Rose};
-ghost use Rattle.mp_cli.specs.Commands.{command_of, name_of, other_of};
+ghost use Rattle.mp_cli.specs.Commands.{command_of, name_of, other_of, HasDenominator};
 ghost use Rattle.mp_cli.specs.Ends.{Acts, Means, Does, named_as, IsEnd};
 ghost use Rattle.mp_cli.specs.Complete.{IsGood, IsExcessive};
 ghost use Rattle.mp_cli.specs.Others.{Files};
 
+use crate::auditing::audit;
 use crate::checking::{certify, check, refute};
 use crate::command::{Command, command_of, name_of, other_of};
+use crate::demonstrating::demo;
 use crate::message::put_message;
 use crate::opening::open_net;
 use crate::outcome::{FileRole, Outcome, status_of};
 use crate::running::{run, run_with};
+use crate::scaling::scale;
 use mp_edge::{Failed, Sink, Source, Store};
 use mp_net::Net;
 use mp_netfile::print_net;
@@ -32,7 +35,7 @@ fn show<Out: Sink>(alloc: Global, net: &Net, out: &mut Out) -> Outcome
     }
 }
 
-// Does what the command asks for on the network of the file, and with the other file.
+// Does what the command asks for, with the network file and the other file of these names.
 fn obey<St: Store, In: Source, Out: Sink>(
     alloc: Global,
     command: Command,
@@ -42,14 +45,17 @@ fn obey<St: Store, In: Source, Out: Sink>(
     input: &mut In,
     out: &mut Out,
 ) -> Outcome
+    requires { HasDenominator command }
     ensures words { command ≡ Command.Unknown → result ≡ Outcome.Words }
     ensures means { Means result command (St.files store.old) name.now other.now (In.left input.old) (In.left input.new) (Out.held out.old) (Out.held out.new) }
     ensures store { (file : FileRole) → result ≡ Outcome.Store file → Rose (St.faults store.old) (St.faults store.new) }
     ensures read { result ≡ Outcome.Read → Rose (In.faults input.old) (In.faults input.new) }
     ensures write { result ≡ Outcome.Write → Rose (Out.faults out.old) (Out.faults out.new) }
 {
-    if let Command::Unknown = command {
-        return Outcome::Words;
+    match command {
+        Command::Unknown => return Outcome::Words,
+        Command::Demo(n) => return demo(alloc, n, out),
+        _ => {}
     }
     let net = match open_net(alloc, name, store) {
         Ok(net) => net,
@@ -61,8 +67,10 @@ fn obey<St: Store, In: Source, Out: Sink>(
         Command::Certify => certify(alloc, &net, out),
         Command::Check => check(alloc, &net, other, store, out),
         Command::Refute => refute(alloc, &net, other, store, out),
+        Command::Audit => audit(alloc, &net, input, out),
+        Command::Scale(d) => scale(alloc, &net, d, out),
         Command::Show => show(alloc, &net, out),
-        Command::Unknown => Outcome::Words,
+        Command::Demo(_) | Command::Unknown => unreachable!(),
     }
 }
 
@@ -80,17 +88,22 @@ fn named_in<'a>(outcome: &Outcome, name: &'a str, other: &'a str) -> &'a str
 ///
 /// `run NET` certifies the network and writes the log of the run of the stream on `input`, whose header
 /// has the greatest slack and a bound for every queue; `runwith NET CERT` takes the slack of a
-/// certificate; `show NET` writes the network as a
-/// file; `certify NET` writes the certificate of the greatest slack; `check NET CERT` writes the slack of a certificate that holds; `refute NET VECTOR` writes the
-/// load and the capacity of a vector that speaks against the network. Every status but 0 has its line
-/// on `err`, whose faults are ignored: 1 for words that are not listed, 2 for a fault of the store, 3
-/// for the first rule that the network file breaks and for the first line of the other file that is not
-/// in its grammar, 4 for a network that is critical or overloaded, with the vector that shows it, for the
-/// first rule that a certificate breaks and for a vector that shows nothing, 5 for a calculation that
-/// passes 128 bits, 6 for the limit of turns at a junction, 7 for the first line of the stream that is too long or not in
-/// the grammar, 8 for the first period of the stream in which some link does not keep to its bucket, 9
-/// for more than 2^48 lines, 10 for a fault of the input, 11 for one of the output, and 12 for want of
-/// memory, which comes before the first byte is put.
+/// certificate; `show NET` writes the network as a file; `certify NET` writes the certificate of the
+/// greatest slack; `check NET CERT` writes the slack of a certificate that holds; `refute NET VECTOR`
+/// writes the load and the capacity of a vector that speaks against the network; `audit NET` writes the
+/// number of periods of the log on `input`, where it is a whole one; `demo N` writes the summary of a
+/// long run on a network of its own; `scale NET D` writes the greatest certificate over a denominator.
+///
+/// Every status but 0 has its line on `err`, whose faults are ignored: 1 for words that are not listed,
+/// 2 for a fault of the store, 3 for the first rule that the network file breaks and for the first line
+/// of the other file that is not in its grammar, 4 for a network that is critical or overloaded, with the
+/// vector that shows it, for the first rule that a certificate breaks, for a vector that shows nothing,
+/// and where no certificate has the denominator, 5 for a calculation that passes 128 bits, 6 for the
+/// limit of turns at a junction, 7 for the first line of the stream that is too long or not in the
+/// grammar, 8 for the first period of the stream in which some link does not keep to its bucket, 9 for
+/// more than 2^48 lines, 10 for a fault of the input, 11 for one of the output, 12 for want of memory,
+/// which comes before the first byte is put, 13 for the first line that differs from a log, and 15 for
+/// the limit of sweeps.
 pub fn top<St: Store, In: Source, Out: Sink, Er: Sink>(
     alloc: Global,
     words: &[String],

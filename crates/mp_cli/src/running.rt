@@ -4,19 +4,16 @@ ghost use Rattle.mp_edge.specs.Outside.{Rose};
 ghost use Rattle.mp_model.specs.Certificate.{HasLengths};
 ghost use Rattle.mp_cert.specs.Views.{cert_of};
 ghost use Rattle.mp_cli.specs.Ends.{Acts};
-ghost use Rattle.mp_cli.specs.Outcomes.{outcome_of, outcome_of_calculation, outcome_of_opening};
+ghost use Rattle.mp_cli.specs.Outcomes.{outcome_of};
 ghost use Rattle.mp_cli.specs.Others.{Files};
 ghost use Rattle.mp_cli.specs.Runs.{RunsSo};
 
-use crate::checking::outcome_of_fault;
 use crate::command::Command;
 use crate::opening::open_cert;
 use crate::outcome::{FileRole, Outcome};
-use mp_admit::{Verdict, admit};
+use crate::session::{admitted, open_session};
 use mp_cert::Cert;
-use mp_drift::{OpenFault, Session};
 use mp_edge::{Failed, Sink, Source, Store};
-use mp_flow::CalcFault;
 use mp_log::put_header;
 use mp_net::Net;
 use mp_run::{RunEnd, run_stream};
@@ -37,28 +34,6 @@ fn outcome_of(end: RunEnd) -> Outcome
     }
 }
 
-/// The outcome of a calculation that has no result.
-pub fn outcome_of_calculation(fault: CalcFault) -> Outcome
-    ensures { result ≡ outcome_of_calculation fault }
-{
-    match fault {
-        CalcFault::Overflow(place) => Outcome::Overflow(place),
-        CalcFault::PivotLimit(j) => Outcome::PivotLimit(j),
-        CalcFault::NoMemory => Outcome::NoMemory,
-    }
-}
-
-// The outcome of a session that was not opened.
-fn outcome_of_opening(fault: OpenFault) -> Outcome
-    ensures { result ≡ outcome_of_opening fault }
-{
-    match fault {
-        OpenFault::Cert(broken) => outcome_of_fault(broken),
-        OpenFault::Calc(broken) => outcome_of_calculation(broken),
-        OpenFault::NoMemory => Outcome::NoMemory,
-    }
-}
-
 // Runs the stream under a certificate. All memory is taken before the first byte is put.
 fn run_under<In: Source, Out: Sink>(
     alloc: Global,
@@ -74,9 +49,9 @@ fn run_under<In: Source, Out: Sink>(
     ensures read { result ≡ Outcome.Read → Rose (In.faults input.old) (In.faults input.new) }
     ensures write { result ≡ Outcome.Write → Rose (Out.faults out.old) (Out.faults out.new) }
 {
-    let mut session = match Session::open(alloc, net, cert) {
+    let mut session = match open_session(alloc, net, cert) {
         Ok(session) => session,
-        Err(fault) => return outcome_of_opening(fault),
+        Err(outcome) => return outcome,
     };
     // A session's state comes with what the session keeps.
     let _ = session.state();
@@ -99,13 +74,9 @@ pub fn run<In: Source, Out: Sink>(
     ensures read { result ≡ Outcome.Read → Rose (In.faults input.old) (In.faults input.new) }
     ensures write { result ≡ Outcome.Write → Rose (Out.faults out.old) (Out.faults out.new) }
 {
-    // A network's share total comes with what its rules say.
-    let _ = net.shares();
-    match admit(alloc, net) {
-        Ok(Verdict::Admitted { cert, .. }) => run_under(alloc, net, &cert, input, out),
-        Ok(Verdict::Critical { against }) => Outcome::Critical(against),
-        Ok(Verdict::Overloaded { against }) => Outcome::Overloaded(against),
-        Err(fault) => outcome_of_calculation(fault),
+    match admitted(alloc, net) {
+        Ok(cert) => run_under(alloc, net, &cert, input, out),
+        Err(outcome) => outcome,
     }
 }
 

@@ -20,7 +20,7 @@ const LOOP: &str =
 const NO_EXIT: &str =
     "version = 1\nshares = 1\nper = 2\n[[link]]\nname = \"x\"\nburst = 1\nrate = 1\n[[link]]\nname = \"y\"\n[[movement]]\nname = \"xy\"\nfrom = \"x\"\nto = \"y\"\nshare = 1\nflow = 1\n[[movement]]\nname = \"yo\"\nfrom = \"y\"\nto = \"x\"\nshare = 1\nflow = 1\n[[junction]]\nname = \"j1\"\nstages = [[\"xy\"]]\n[[junction]]\nname = \"j2\"\nstages = [[\"yo\"]]\n";
 
-const CORRIDOR: &str =
+pub const CORRIDOR: &str =
     "version = 1\nshares = 100\nper = 40\n[[link]]\nname = \"e1\"\nburst = 30\nrate = 600\n[[link]]\nname = \"e2\"\n[[link]]\nname = \"e3\"\n[[link]]\nname = \"w3\"\nburst = 30\nrate = 500\n[[link]]\nname = \"w2\"\n[[link]]\nname = \"w1\"\n[[link]]\nname = \"n1\"\nburst = 10\nrate = 200\n[[link]]\nname = \"n2\"\nburst = 10\nrate = 200\n[[link]]\nname = \"n3\"\nburst = 10\nrate = 200\n[[link]]\nname = \"s1\"\nburst = 10\nrate = 200\n[[link]]\nname = \"s2\"\nburst = 10\nrate = 200\n[[link]]\nname = \"s3\"\nburst = 10\nrate = 200\n[[movement]]\nname = \"e1.t\"\nfrom = \"e1\"\nto = \"e2\"\nshare = 70\nflow = 90\n[[movement]]\nname = \"e1.l\"\nfrom = \"e1\"\nto = \"out\"\nshare = 10\nflow = 40\n[[movement]]\nname = \"e1.r\"\nfrom = \"e1\"\nto = \"out\"\nshare = 20\nflow = 40\n[[movement]]\nname = \"e2.t\"\nfrom = \"e2\"\nto = \"e3\"\nshare = 70\nflow = 90\n[[movement]]\nname = \"e2.l\"\nfrom = \"e2\"\nto = \"out\"\nshare = 10\nflow = 40\n[[movement]]\nname = \"e2.r\"\nfrom = \"e2\"\nto = \"out\"\nshare = 20\nflow = 40\n[[movement]]\nname = \"e3.t\"\nfrom = \"e3\"\nto = \"out\"\nshare = 70\nflow = 90\n[[movement]]\nname = \"e3.l\"\nfrom = \"e3\"\nto = \"out\"\nshare = 10\nflow = 40\n[[movement]]\nname = \"e3.r\"\nfrom = \"e3\"\nto = \"out\"\nshare = 20\nflow = 40\n[[movement]]\nname = \"w3.t\"\nfrom = \"w3\"\nto = \"w2\"\nshare = 70\nflow = 90\n[[movement]]\nname = \"w3.l\"\nfrom = \"w3\"\nto = \"out\"\nshare = 10\nflow = 40\n[[movement]]\nname = \"w3.r\"\nfrom = \"w3\"\nto = \"out\"\nshare = 20\nflow = 40\n[[movement]]\nname = \"w2.t\"\nfrom = \"w2\"\nto = \"w1\"\nshare = 70\nflow = 90\n[[movement]]\nname = \"w2.l\"\nfrom = \"w2\"\nto = \"out\"\nshare = 10\nflow = 40\n[[movement]]\nname = \"w2.r\"\nfrom = \"w2\"\nto = \"out\"\nshare = 20\nflow = 40\n[[movement]]\nname = \"w1.t\"\nfrom = \"w1\"\nto = \"out\"\nshare = 70\nflow = 90\n[[movement]]\nname = \"w1.l\"\nfrom = \"w1\"\nto = \"out\"\nshare = 10\nflow = 40\n[[movement]]\nname = \"w1.r\"\nfrom = \"w1\"\nto = \"out\"\nshare = 20\nflow = 40\n[[movement]]\nname = \"n1.t\"\nfrom = \"n1\"\nto = \"out\"\nshare = 40\nflow = 45\n[[movement]]\nname = \"n1.l\"\nfrom = \"n1\"\nto = \"e2\"\nshare = 30\nflow = 40\n[[movement]]\nname = \"n1.r\"\nfrom = \"n1\"\nto = \"out\"\nshare = 30\nflow = 40\n[[movement]]\nname = \"n2.t\"\nfrom = \"n2\"\nto = \"out\"\nshare = 40\nflow = 45\n[[movement]]\nname = \"n2.l\"\nfrom = \"n2\"\nto = \"e3\"\nshare = 30\nflow = 40\n[[movement]]\nname = \"n2.r\"\nfrom = \"n2\"\nto = \"w1\"\nshare = 30\nflow = 40\n[[movement]]\nname = \"n3.t\"\nfrom = \"n3\"\nto = \"out\"\nshare = 40\nflow = 45\n[[movement]]\nname = \"n3.l\"\nfrom = \"n3\"\nto = \"out\"\nshare = 30\nflow = 40\n[[movement]]\nname = \"n3.r\"\nfrom = \"n3\"\nto = \"w2\"\nshare = 30\nflow = 40\n[[movement]]\nname = \"s1.t\"\nfrom = \"s1\"\nto = \"out\"\nshare = 40\nflow = 45\n[[movement]]\nname = \"s1.l\"\nfrom = \"s1\"\nto = \"out\"\nshare = 30\nflow = 40\n[[movement]]\nname = \"s1.r\"\nfrom = \"s1\"\nto = \"e2\"\nshare = 30\nflow = 40\n[[movement]]\nname = \"s2.t\"\nfrom = \"s2\"\nto = \"out\"\nshare = 40\nflow = 45\n[[movement]]\nname = \"s2.l\"\nfrom = \"s2\"\nto = \"w1\"\nshare = 30\nflow = 40\n[[movement]]\nname = \"s2.r\"\nfrom = \"s2\"\nto = \"e3\"\nshare = 30\nflow = 40\n[[movement]]\nname = \"s3.t\"\nfrom = \"s3\"\nto = \"out\"\nshare = 40\nflow = 45\n[[movement]]\nname = \"s3.l\"\nfrom = \"s3\"\nto = \"w2\"\nshare = 30\nflow = 40\n[[movement]]\nname = \"s3.r\"\nfrom = \"s3\"\nto = \"out\"\nshare = 30\nflow = 40\n[[junction]]\nname = \"j1\"\nstages = [[\"e1.t\", \"e1.r\", \"w1.t\", \"w1.r\"], [\"e1.l\", \"w1.l\"], [\"n1.t\", \"n1.r\", \"s1.t\", \"s1.r\"], [\"n1.l\", \"s1.l\"]]\n[[junction]]\nname = \"j2\"\nstages = [[\"e2.t\", \"e2.r\", \"w2.t\", \"w2.r\"], [\"e2.l\", \"w2.l\"], [\"n2.t\", \"n2.r\", \"s2.t\", \"s2.r\"], [\"n2.l\", \"s2.l\"]]\n[[junction]]\nname = \"j3\"\nstages = [[\"e3.t\", \"e3.r\", \"w3.t\", \"w3.r\"], [\"e3.l\", \"w3.l\"], [\"n3.t\", \"n3.r\", \"s3.t\", \"s3.r\"], [\"n3.l\", \"s3.l\"]]\n";
 
 const AT_FIVE: &str =
@@ -33,7 +33,7 @@ const ONE_LINK: &str =
     "version = 1\nshares = 1\nper = 1\n[[link]]\nname = \"a\"\nrate = 1\n[[movement]]\nname = \"ao\"\nfrom = \"a\"\nto = \"out\"\nshare = 1\nflow = 2\n[[junction]]\nname = \"j\"\nstages = [[\"ao\"]]\n";
 
 // A ring of forty links, and a chain of twelve.
-const RING: &str =
+pub const RING: &str =
     "version = 1\nshares = 1000\nper = 1\n[[link]]\nname = \"r1\"\nburst = 1\nrate = 1\n[[link]]\nname = \"r2\"\n[[link]]\nname = \"r3\"\n[[link]]\nname = \"r4\"\n[[link]]\nname = \"r5\"\n[[link]]\nname = \"r6\"\n[[link]]\nname = \"r7\"\n[[link]]\nname = \"r8\"\n[[link]]\nname = \"r9\"\n[[link]]\nname = \"r10\"\n[[link]]\nname = \"r11\"\n[[link]]\nname = \"r12\"\n[[link]]\nname = \"r13\"\n[[link]]\nname = \"r14\"\n[[link]]\nname = \"r15\"\n[[link]]\nname = \"r16\"\n[[link]]\nname = \"r17\"\n[[link]]\nname = \"r18\"\n[[link]]\nname = \"r19\"\n[[link]]\nname = \"r20\"\n[[link]]\nname = \"r21\"\n[[link]]\nname = \"r22\"\n[[link]]\nname = \"r23\"\n[[link]]\nname = \"r24\"\n[[link]]\nname = \"r25\"\n[[link]]\nname = \"r26\"\n[[link]]\nname = \"r27\"\n[[link]]\nname = \"r28\"\n[[link]]\nname = \"r29\"\n[[link]]\nname = \"r30\"\n[[link]]\nname = \"r31\"\n[[link]]\nname = \"r32\"\n[[link]]\nname = \"r33\"\n[[link]]\nname = \"r34\"\n[[link]]\nname = \"r35\"\n[[link]]\nname = \"r36\"\n[[link]]\nname = \"r37\"\n[[link]]\nname = \"r38\"\n[[link]]\nname = \"r39\"\n[[link]]\nname = \"r40\"\n[[movement]]\nname = \"r1n\"\nfrom = \"r1\"\nto = \"r2\"\nshare = 999\nflow = 1000\n[[movement]]\nname = \"r1x\"\nfrom = \"r1\"\nto = \"out\"\nshare = 1\nflow = 1000\n[[movement]]\nname = \"r2n\"\nfrom = \"r2\"\nto = \"r3\"\nshare = 999\nflow = 1000\n[[movement]]\nname = \"r2x\"\nfrom = \"r2\"\nto = \"out\"\nshare = 1\nflow = 1000\n[[movement]]\nname = \"r3n\"\nfrom = \"r3\"\nto = \"r4\"\nshare = 999\nflow = 1000\n[[movement]]\nname = \"r3x\"\nfrom = \"r3\"\nto = \"out\"\nshare = 1\nflow = 1000\n[[movement]]\nname = \"r4n\"\nfrom = \"r4\"\nto = \"r5\"\nshare = 999\nflow = 1000\n[[movement]]\nname = \"r4x\"\nfrom = \"r4\"\nto = \"out\"\nshare = 1\nflow = 1000\n[[movement]]\nname = \"r5n\"\nfrom = \"r5\"\nto = \"r6\"\nshare = 999\nflow = 1000\n[[movement]]\nname = \"r5x\"\nfrom = \"r5\"\nto = \"out\"\nshare = 1\nflow = 1000\n[[movement]]\nname = \"r6n\"\nfrom = \"r6\"\nto = \"r7\"\nshare = 999\nflow = 1000\n[[movement]]\nname = \"r6x\"\nfrom = \"r6\"\nto = \"out\"\nshare = 1\nflow = 1000\n[[movement]]\nname = \"r7n\"\nfrom = \"r7\"\nto = \"r8\"\nshare = 999\nflow = 1000\n[[movement]]\nname = \"r7x\"\nfrom = \"r7\"\nto = \"out\"\nshare = 1\nflow = 1000\n[[movement]]\nname = \"r8n\"\nfrom = \"r8\"\nto = \"r9\"\nshare = 999\nflow = 1000\n[[movement]]\nname = \"r8x\"\nfrom = \"r8\"\nto = \"out\"\nshare = 1\nflow = 1000\n[[movement]]\nname = \"r9n\"\nfrom = \"r9\"\nto = \"r10\"\nshare = 999\nflow = 1000\n[[movement]]\nname = \"r9x\"\nfrom = \"r9\"\nto = \"out\"\nshare = 1\nflow = 1000\n[[movement]]\nname = \"r10n\"\nfrom = \"r10\"\nto = \"r11\"\nshare = 999\nflow = 1000\n[[movement]]\nname = \"r10x\"\nfrom = \"r10\"\nto = \"out\"\nshare = 1\nflow = 1000\n[[movement]]\nname = \"r11n\"\nfrom = \"r11\"\nto = \"r12\"\nshare = 999\nflow = 1000\n[[movement]]\nname = \"r11x\"\nfrom = \"r11\"\nto = \"out\"\nshare = 1\nflow = 1000\n[[movement]]\nname = \"r12n\"\nfrom = \"r12\"\nto = \"r13\"\nshare = 999\nflow = 1000\n[[movement]]\nname = \"r12x\"\nfrom = \"r12\"\nto = \"out\"\nshare = 1\nflow = 1000\n[[movement]]\nname = \"r13n\"\nfrom = \"r13\"\nto = \"r14\"\nshare = 999\nflow = 1000\n[[movement]]\nname = \"r13x\"\nfrom = \"r13\"\nto = \"out\"\nshare = 1\nflow = 1000\n[[movement]]\nname = \"r14n\"\nfrom = \"r14\"\nto = \"r15\"\nshare = 999\nflow = 1000\n[[movement]]\nname = \"r14x\"\nfrom = \"r14\"\nto = \"out\"\nshare = 1\nflow = 1000\n[[movement]]\nname = \"r15n\"\nfrom = \"r15\"\nto = \"r16\"\nshare = 999\nflow = 1000\n[[movement]]\nname = \"r15x\"\nfrom = \"r15\"\nto = \"out\"\nshare = 1\nflow = 1000\n[[movement]]\nname = \"r16n\"\nfrom = \"r16\"\nto = \"r17\"\nshare = 999\nflow = 1000\n[[movement]]\nname = \"r16x\"\nfrom = \"r16\"\nto = \"out\"\nshare = 1\nflow = 1000\n[[movement]]\nname = \"r17n\"\nfrom = \"r17\"\nto = \"r18\"\nshare = 999\nflow = 1000\n[[movement]]\nname = \"r17x\"\nfrom = \"r17\"\nto = \"out\"\nshare = 1\nflow = 1000\n[[movement]]\nname = \"r18n\"\nfrom = \"r18\"\nto = \"r19\"\nshare = 999\nflow = 1000\n[[movement]]\nname = \"r18x\"\nfrom = \"r18\"\nto = \"out\"\nshare = 1\nflow = 1000\n[[movement]]\nname = \"r19n\"\nfrom = \"r19\"\nto = \"r20\"\nshare = 999\nflow = 1000\n[[movement]]\nname = \"r19x\"\nfrom = \"r19\"\nto = \"out\"\nshare = 1\nflow = 1000\n[[movement]]\nname = \"r20n\"\nfrom = \"r20\"\nto = \"r21\"\nshare = 999\nflow = 1000\n[[movement]]\nname = \"r20x\"\nfrom = \"r20\"\nto = \"out\"\nshare = 1\nflow = 1000\n[[movement]]\nname = \"r21n\"\nfrom = \"r21\"\nto = \"r22\"\nshare = 999\nflow = 1000\n[[movement]]\nname = \"r21x\"\nfrom = \"r21\"\nto = \"out\"\nshare = 1\nflow = 1000\n[[movement]]\nname = \"r22n\"\nfrom = \"r22\"\nto = \"r23\"\nshare = 999\nflow = 1000\n[[movement]]\nname = \"r22x\"\nfrom = \"r22\"\nto = \"out\"\nshare = 1\nflow = 1000\n[[movement]]\nname = \"r23n\"\nfrom = \"r23\"\nto = \"r24\"\nshare = 999\nflow = 1000\n[[movement]]\nname = \"r23x\"\nfrom = \"r23\"\nto = \"out\"\nshare = 1\nflow = 1000\n[[movement]]\nname = \"r24n\"\nfrom = \"r24\"\nto = \"r25\"\nshare = 999\nflow = 1000\n[[movement]]\nname = \"r24x\"\nfrom = \"r24\"\nto = \"out\"\nshare = 1\nflow = 1000\n[[movement]]\nname = \"r25n\"\nfrom = \"r25\"\nto = \"r26\"\nshare = 999\nflow = 1000\n[[movement]]\nname = \"r25x\"\nfrom = \"r25\"\nto = \"out\"\nshare = 1\nflow = 1000\n[[movement]]\nname = \"r26n\"\nfrom = \"r26\"\nto = \"r27\"\nshare = 999\nflow = 1000\n[[movement]]\nname = \"r26x\"\nfrom = \"r26\"\nto = \"out\"\nshare = 1\nflow = 1000\n[[movement]]\nname = \"r27n\"\nfrom = \"r27\"\nto = \"r28\"\nshare = 999\nflow = 1000\n[[movement]]\nname = \"r27x\"\nfrom = \"r27\"\nto = \"out\"\nshare = 1\nflow = 1000\n[[movement]]\nname = \"r28n\"\nfrom = \"r28\"\nto = \"r29\"\nshare = 999\nflow = 1000\n[[movement]]\nname = \"r28x\"\nfrom = \"r28\"\nto = \"out\"\nshare = 1\nflow = 1000\n[[movement]]\nname = \"r29n\"\nfrom = \"r29\"\nto = \"r30\"\nshare = 999\nflow = 1000\n[[movement]]\nname = \"r29x\"\nfrom = \"r29\"\nto = \"out\"\nshare = 1\nflow = 1000\n[[movement]]\nname = \"r30n\"\nfrom = \"r30\"\nto = \"r31\"\nshare = 999\nflow = 1000\n[[movement]]\nname = \"r30x\"\nfrom = \"r30\"\nto = \"out\"\nshare = 1\nflow = 1000\n[[movement]]\nname = \"r31n\"\nfrom = \"r31\"\nto = \"r32\"\nshare = 999\nflow = 1000\n[[movement]]\nname = \"r31x\"\nfrom = \"r31\"\nto = \"out\"\nshare = 1\nflow = 1000\n[[movement]]\nname = \"r32n\"\nfrom = \"r32\"\nto = \"r33\"\nshare = 999\nflow = 1000\n[[movement]]\nname = \"r32x\"\nfrom = \"r32\"\nto = \"out\"\nshare = 1\nflow = 1000\n[[movement]]\nname = \"r33n\"\nfrom = \"r33\"\nto = \"r34\"\nshare = 999\nflow = 1000\n[[movement]]\nname = \"r33x\"\nfrom = \"r33\"\nto = \"out\"\nshare = 1\nflow = 1000\n[[movement]]\nname = \"r34n\"\nfrom = \"r34\"\nto = \"r35\"\nshare = 999\nflow = 1000\n[[movement]]\nname = \"r34x\"\nfrom = \"r34\"\nto = \"out\"\nshare = 1\nflow = 1000\n[[movement]]\nname = \"r35n\"\nfrom = \"r35\"\nto = \"r36\"\nshare = 999\nflow = 1000\n[[movement]]\nname = \"r35x\"\nfrom = \"r35\"\nto = \"out\"\nshare = 1\nflow = 1000\n[[movement]]\nname = \"r36n\"\nfrom = \"r36\"\nto = \"r37\"\nshare = 999\nflow = 1000\n[[movement]]\nname = \"r36x\"\nfrom = \"r36\"\nto = \"out\"\nshare = 1\nflow = 1000\n[[movement]]\nname = \"r37n\"\nfrom = \"r37\"\nto = \"r38\"\nshare = 999\nflow = 1000\n[[movement]]\nname = \"r37x\"\nfrom = \"r37\"\nto = \"out\"\nshare = 1\nflow = 1000\n[[movement]]\nname = \"r38n\"\nfrom = \"r38\"\nto = \"r39\"\nshare = 999\nflow = 1000\n[[movement]]\nname = \"r38x\"\nfrom = \"r38\"\nto = \"out\"\nshare = 1\nflow = 1000\n[[movement]]\nname = \"r39n\"\nfrom = \"r39\"\nto = \"r40\"\nshare = 999\nflow = 1000\n[[movement]]\nname = \"r39x\"\nfrom = \"r39\"\nto = \"out\"\nshare = 1\nflow = 1000\n[[movement]]\nname = \"r40n\"\nfrom = \"r40\"\nto = \"r1\"\nshare = 999\nflow = 1000\n[[movement]]\nname = \"r40x\"\nfrom = \"r40\"\nto = \"out\"\nshare = 1\nflow = 1000\n[[junction]]\nname = \"j1\"\nstages = [[\"r1n\", \"r1x\"]]\n[[junction]]\nname = \"j2\"\nstages = [[\"r2n\", \"r2x\"]]\n[[junction]]\nname = \"j3\"\nstages = [[\"r3n\", \"r3x\"]]\n[[junction]]\nname = \"j4\"\nstages = [[\"r4n\", \"r4x\"]]\n[[junction]]\nname = \"j5\"\nstages = [[\"r5n\", \"r5x\"]]\n[[junction]]\nname = \"j6\"\nstages = [[\"r6n\", \"r6x\"]]\n[[junction]]\nname = \"j7\"\nstages = [[\"r7n\", \"r7x\"]]\n[[junction]]\nname = \"j8\"\nstages = [[\"r8n\", \"r8x\"]]\n[[junction]]\nname = \"j9\"\nstages = [[\"r9n\", \"r9x\"]]\n[[junction]]\nname = \"j10\"\nstages = [[\"r10n\", \"r10x\"]]\n[[junction]]\nname = \"j11\"\nstages = [[\"r11n\", \"r11x\"]]\n[[junction]]\nname = \"j12\"\nstages = [[\"r12n\", \"r12x\"]]\n[[junction]]\nname = \"j13\"\nstages = [[\"r13n\", \"r13x\"]]\n[[junction]]\nname = \"j14\"\nstages = [[\"r14n\", \"r14x\"]]\n[[junction]]\nname = \"j15\"\nstages = [[\"r15n\", \"r15x\"]]\n[[junction]]\nname = \"j16\"\nstages = [[\"r16n\", \"r16x\"]]\n[[junction]]\nname = \"j17\"\nstages = [[\"r17n\", \"r17x\"]]\n[[junction]]\nname = \"j18\"\nstages = [[\"r18n\", \"r18x\"]]\n[[junction]]\nname = \"j19\"\nstages = [[\"r19n\", \"r19x\"]]\n[[junction]]\nname = \"j20\"\nstages = [[\"r20n\", \"r20x\"]]\n[[junction]]\nname = \"j21\"\nstages = [[\"r21n\", \"r21x\"]]\n[[junction]]\nname = \"j22\"\nstages = [[\"r22n\", \"r22x\"]]\n[[junction]]\nname = \"j23\"\nstages = [[\"r23n\", \"r23x\"]]\n[[junction]]\nname = \"j24\"\nstages = [[\"r24n\", \"r24x\"]]\n[[junction]]\nname = \"j25\"\nstages = [[\"r25n\", \"r25x\"]]\n[[junction]]\nname = \"j26\"\nstages = [[\"r26n\", \"r26x\"]]\n[[junction]]\nname = \"j27\"\nstages = [[\"r27n\", \"r27x\"]]\n[[junction]]\nname = \"j28\"\nstages = [[\"r28n\", \"r28x\"]]\n[[junction]]\nname = \"j29\"\nstages = [[\"r29n\", \"r29x\"]]\n[[junction]]\nname = \"j30\"\nstages = [[\"r30n\", \"r30x\"]]\n[[junction]]\nname = \"j31\"\nstages = [[\"r31n\", \"r31x\"]]\n[[junction]]\nname = \"j32\"\nstages = [[\"r32n\", \"r32x\"]]\n[[junction]]\nname = \"j33\"\nstages = [[\"r33n\", \"r33x\"]]\n[[junction]]\nname = \"j34\"\nstages = [[\"r34n\", \"r34x\"]]\n[[junction]]\nname = \"j35\"\nstages = [[\"r35n\", \"r35x\"]]\n[[junction]]\nname = \"j36\"\nstages = [[\"r36n\", \"r36x\"]]\n[[junction]]\nname = \"j37\"\nstages = [[\"r37n\", \"r37x\"]]\n[[junction]]\nname = \"j38\"\nstages = [[\"r38n\", \"r38x\"]]\n[[junction]]\nname = \"j39\"\nstages = [[\"r39n\", \"r39x\"]]\n[[junction]]\nname = \"j40\"\nstages = [[\"r40n\", \"r40x\"]]\n";
 
 const CHAIN: &str =
@@ -42,17 +42,17 @@ const CHAIN: &str =
 /// What is handed to the top call: the words, the stream with the size of its pieces, and the calls that
 /// fail outside.
 #[derive(Drop)]
-struct Attempt {
-    words: &'static [&'static str],
-    stream: &'static [u8],
-    piece: usize,
-    store_fails: &'static [u64],
-    read_fails: &'static [u64],
-    write_fails: &'static [(u64, usize)],
+pub struct Attempt {
+    pub words: &'static [&'static str],
+    pub stream: &'static [u8],
+    pub piece: usize,
+    pub store_fails: &'static [u64],
+    pub read_fails: &'static [u64],
+    pub write_fails: &'static [(u64, usize)],
 }
 
 // A call without faults.
-fn call(words: &'static [&'static str], stream: &'static [u8]) -> Attempt {
+pub fn call(words: &'static [&'static str], stream: &'static [u8]) -> Attempt {
     Attempt {
         words,
         stream,
@@ -79,7 +79,7 @@ fn failing(
     }
 }
 
-fn store(alloc: Global, fails: &[u64]) -> Result<MemStore, Fail> {
+pub fn store(alloc: Global, fails: &[u64]) -> Result<MemStore, Fail> {
     let mut files = Vec::new(alloc);
     for (name, text) in [
         ("two-links", TWO_LINKS),
@@ -126,7 +126,7 @@ fn store(alloc: Global, fails: &[u64]) -> Result<MemStore, Fail> {
     Ok(MemStore::new(alloc, files, fails)?)
 }
 
-fn words_of(alloc: Global, call: &Attempt) -> Result<Vec<String>, Fail> {
+pub fn words_of(alloc: Global, call: &Attempt) -> Result<Vec<String>, Fail> {
     let mut words = Vec::new(alloc);
     for word in call.words {
         words.push(String::from_str(alloc, word)?)?;
@@ -135,7 +135,7 @@ fn words_of(alloc: Global, call: &Attempt) -> Result<Vec<String>, Fail> {
 }
 
 // Makes the call, and compares its status and what both outputs hold.
-fn check(
+pub fn check(
     rt: &impl Abort,
     alloc: Global,
     call: &Attempt,
@@ -163,11 +163,11 @@ fn check(
     Ok(())
 }
 
-const CERT: &str = "certificate 1\nd 4\ne 3\nh 4 4\nmix 1 1 2 2\n";
+pub const CERT: &str = "certificate 1\nd 4\ne 3\nh 4 4\nmix 1 1 2 2\n";
 
 const FIRST: &str = "maxpressure 1\nslack 3/4\nbound 1 ao 24\nbound 2 bo 24\n";
 
-const ENDED: &str =
+pub const ENDED: &str =
     "maxpressure 1\nslack 3/4\nbound 1 ao 24\nbound 2 bo 24\np 1 a 2 1 s 1 q 2 1\np 2 a 0 0 s 1 q 0 1\np 3 a 0 0 s 2 q 0 0\nend 3 in 3 out 3 queued 0\n";
 
 const CORRIDOR_HEAD: &str =
@@ -451,7 +451,7 @@ fn shows_what_it_reads(rt: HostRuntime) -> Result<(), Fail> {
 
 // What the words write, where the stream is empty.
 #[derive(Clone, Copy)]
-struct Told {
+pub struct Told {
     words: &'static [&'static str],
     status: u8,
     out: &'static str,
@@ -459,7 +459,7 @@ struct Told {
 }
 
 // A command that does what was asked.
-fn done(words: &'static [&'static str], out: &'static str) -> Told {
+pub fn done(words: &'static [&'static str], out: &'static str) -> Told {
     Told {
         words,
         status: 0,
@@ -469,7 +469,7 @@ fn done(words: &'static [&'static str], out: &'static str) -> Told {
 }
 
 // A command that is refused.
-fn refused(words: &'static [&'static str], status: u8, err: &'static str) -> Told {
+pub fn refused(words: &'static [&'static str], status: u8, err: &'static str) -> Told {
     Told {
         words,
         status,
@@ -478,7 +478,7 @@ fn refused(words: &'static [&'static str], status: u8, err: &'static str) -> Tol
     }
 }
 
-fn check_all(rt: &impl Abort, alloc: Global, table: &[Told]) -> Result<(), Fail> {
+pub fn check_all(rt: &impl Abort, alloc: Global, table: &[Told]) -> Result<(), Fail> {
     for told in table {
         check(
             rt,

@@ -13,7 +13,7 @@ returns-then-is_weak-clause-acts g c = λ left.
     let p = c.in-Ok.against.p in
     let vector : IsVector net (numbers p) = is_vector net p c.in-Ok.ensures.lengths (not_zero c.is_zero.result p c.as_slice.result.now c.if-is_zero.false c.is_zero.ensures c.as_slice.ensures) in
     let weak = is_weak net p c.in-Ok-weigh.sums vector c.in-Ok-weigh.ensures.load c.in-Ok-weigh.ensures.served (sym c.is_weak.ensures ∙ c.if-is_weak.true) in
-    (refl, of_vector net (g.St.Store.files c.args.store.now) c.args.name.now p (IsWeak net) c.in-Ok.ensures.ok weak, record { input = refl; output = refl })
+    (of_vector net (g.St.Store.files c.args.store.now) c.args.name.now p (IsWeak net) c.in-Ok.ensures.ok weak, record { input = refl; output = refl })
 
 pub returns-in-Ok-put_verdict-clause-acts : goal.returns-in-Ok-put_verdict-clause-acts
 returns-in-Ok-put_verdict-clause-acts g c = λ left.

@@ -1,22 +1,17 @@
-use Rattle.std.proofs.Common.{refl}
-use Rattle.mp_laws.proofs.Tied.{overload}
+use Rattle.std.proofs.Common.{ap, Err}
 use Rattle.mp_cert.specs.Views.{cert_of}
-use Rattle.mp_cli.specs.Others.{numbers}
-use Rattle.mp_cli.proofs.RunLemmas.{run_admitted}
+use Rattle.mp_cli.proofs.RunLemmas.{run_admitted, run_refused}
 use Rattle.mp_cli.proofs.running.run.Goals as goal
 
-pub returns-in-Ok-Admitted-clause-acts : goal.returns-in-Ok-Admitted-clause-acts
-returns-in-Ok-Admitted-clause-acts g c = λ files other.
-    let reached = rw c.in-Ok-Admitted.field-0-is at c.in-Ok-Admitted.ensures.calculation in
-    let holds = rw c.in-Ok-Admitted.field-0-is at c.in-Ok-Admitted.ensures.holds in
-    run_admitted c.args.net.now (cert_of c.in-Ok-Admitted.cert) _ _ reached holds.1 c.run_under.result files other (g.In.Source.left c.args.input.now) (g.In.Source.left c.run_under.new.input) (g.Out.Sink.held c.args.out.now) (g.Out.Sink.held c.run_under.new.out) c.run_under.ensures.so
+pub returns-in-Ok-clause-acts : goal.returns-in-Ok-clause-acts
+returns-in-Ok-clause-acts g c = λ files other.
+    run_admitted c.args.net.now (cert_of c.in-Ok.cert) c.in-Ok.ensures.admitted c.run_under.result files other (g.In.Source.left c.args.input.now) (g.In.Source.left c.run_under.new.input) (g.Out.Sink.held c.args.out.now) (g.Out.Sink.held c.run_under.new.out) c.run_under.ensures.so
 
-pub returns-in-Ok-Overloaded-clause-acts : goal.returns-in-Ok-Overloaded-clause-acts
-returns-in-Ok-Overloaded-clause-acts g c = λ files other.
-    let reached = rw c.in-Ok-Overloaded.field-0-is at c.in-Ok-Overloaded.ensures.calculation in
-    let holds = rw c.in-Ok-Overloaded.field-0-is at c.in-Ok-Overloaded.ensures.holds in
-    let shows = holds.1 in (
-      tt,
-      record { reached = reached; shows = shows; none = overload c.args.net.now c.shares.ensures.acceptable.network (numbers c.in-Ok-Overloaded.against.p, shows) },
-      record { input = refl; output = refl },
-    )
+pub returns-in-Err-clause-acts : goal.returns-in-Err-clause-acts
+returns-in-Err-clause-acts g c = λ files other. run_refused c.in-Err.outcome c.args.net.now files other (g.In.Source.left c.args.input.now) (g.Out.Sink.held c.args.out.now) c.in-Err.ensures.refused
+
+pub returns-in-Err-clause-read : goal.returns-in-Err-clause-read
+returns-in-Err-clause-read g c = λ e. absurd (c.in-Err.ensures.unread (ap Err e))
+
+pub returns-in-Err-clause-write : goal.returns-in-Err-clause-write
+returns-in-Err-clause-write g c = λ e. absurd (c.in-Err.ensures.quiet (ap Err e))

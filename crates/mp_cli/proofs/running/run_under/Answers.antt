@@ -1,4 +1,4 @@
-use Rattle.std.proofs.Common.{◌≡◌, ◌++◌, ℕ, List, [], sym, ◌∙◌, subst}
+use Rattle.std.proofs.Common.{◌≡◌, ◌++◌, ℕ, List, [], Err, sym, ◌∙◌, ap, subst}
 use Rattle.mp_edge.specs.Outside.{Tells, GainsPrefix}
 use Rattle.mp_model.specs.Log.{text_of, header_lines}
 use Rattle.mp_model.specs.Network.{Network}
@@ -9,13 +9,17 @@ use Rattle.mp_run.specs.Running.{EndsAs}
 use Rattle.mp_run.proofs.ProgressLemmas.{with_head}
 use Rattle.mp_cli.specs.declared.outcome.Outcome.{Outcome}
 use Rattle.mp_cli.specs.Runs.{RunsSo}
-use Rattle.mp_cli.proofs.RunLemmas.{opening_so, stood_of, header_same, cut_so, run_so}
+use Rattle.mp_cli.proofs.RunLemmas.{unopened_so, stood_of, header_same, cut_so, run_so}
 use Rattle.mp_cli.proofs.running.run_under.Goals as goal
 
 pub returns-in-Err-clause-so : goal.returns-in-Err-clause-so
-returns-in-Err-clause-so g c =
-    subst (λ (outcome : Outcome). RunsSo outcome c.args.net.now (cert_of c.args.cert.now) (g.In.Source.left c.args.input.now) (g.In.Source.left c.args.input.now) (g.Out.Sink.held c.args.out.now) (g.Out.Sink.held c.args.out.now)) (sym c.outcome_of_opening.ensures)
-    (opening_so c.in-Err.fault c.args.net.now (cert_of c.args.cert.now) (g.In.Source.left c.args.input.now) (g.Out.Sink.held c.args.out.now) c.requires c.in-Err.ensures.refused)
+returns-in-Err-clause-so g c = unopened_so c.in-Err.outcome c.args.net.now (cert_of c.args.cert.now) (g.In.Source.left c.args.input.now) (g.Out.Sink.held c.args.out.now) c.in-Err.ensures.refused
+
+pub returns-in-Err-clause-read : goal.returns-in-Err-clause-read
+returns-in-Err-clause-read g c = λ e. absurd (c.in-Err.ensures.unread (ap Err e))
+
+pub returns-in-Err-clause-write : goal.returns-in-Err-clause-write
+returns-in-Err-clause-write g c = λ e. absurd (c.in-Err.ensures.quiet (ap Err e))
 
 pub returns-in-Err-put_header-clause-so : goal.returns-in-Err-put_header-clause-so
 returns-in-Err-put_header-clause-so g c =
