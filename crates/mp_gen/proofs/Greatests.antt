@@ -7,7 +7,8 @@ use Rattle.std.proofs.lemmas.List.{take_more, take_all, length-map}
 use Rattle.mp_model.specs.Network.{has}
 use Rattle.mp_press.specs.Queues.{naturals}
 use Rattle.mp_laws.proofs.Lists.{AllOf-map}
-use Rattle.mp_gen.specs.Greatest.{greatest_of, IsGreatest}
+use Rattle.mp_model.specs.Load.{greatest as greatest_of}
+use Rattle.mp_gen.specs.Greatest.{IsGreatest}
 
 -- none is above the greatest
 pub none_above : (xs : List ℕ) → AllByRecursion (λ x. x ≤ greatest_of xs) xs

@@ -13,7 +13,7 @@ use Rattle.mp_press.specs.Queues.{naturals}
 use Rattle.mp_step.specs.Standing.{Standing}
 use Rattle.mp_drift.specs.Bounded.{excess, denominator}
 use Rattle.mp_drift.specs.Session.{Bounded, IsBounded}
-use Rattle.mp_gen.specs.Greatest.{greatest_of}
+use Rattle.mp_model.specs.Load.{greatest as greatest_of}
 use Rattle.mp_gen.specs.Demonstration.{Demonstrated}
 use Rattle.mp_gen.proofs.Greatests.{none_above, greatest-append}
 

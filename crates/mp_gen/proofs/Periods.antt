@@ -8,7 +8,7 @@ use Rattle.mp_model.specs.Step.{State}
 use Rattle.mp_model.specs.Run.{opening, advance, run_from, state_after}
 use Rattle.mp_step.specs.Standing.{Standing, Stands}
 use Rattle.mp_step.specs.Taken.{HasTaken}
-use Rattle.mp_gen.specs.Greatest.{greatest_of}
+use Rattle.mp_model.specs.Load.{greatest as greatest_of}
 use Rattle.mp_gen.specs.DemoNetwork.{demo_network}
 use Rattle.mp_gen.specs.DemoArrivals.{seeded, AreDrawn}
 use Rattle.mp_gen.specs.Demonstration.{greatest_queue, Demonstrated, ClosesNext}

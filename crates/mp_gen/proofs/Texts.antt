@@ -7,7 +7,7 @@ use Rattle.mp_model.specs.Network.{Network, movement_numbers, entry}
 use Rattle.mp_model.specs.Step.{State, queued}
 use Rattle.mp_model.specs.Run.{opening, state_after}
 use Rattle.mp_step.specs.Standing.{Standing, IsOn, Stands}
-use Rattle.mp_gen.specs.Greatest.{greatest_of}
+use Rattle.mp_model.specs.Load.{greatest as greatest_of}
 use Rattle.mp_gen.specs.Demonstration.{Demonstrated}
 use Rattle.mp_gen.specs.DemoText.{demo_text, demo_summary}
 

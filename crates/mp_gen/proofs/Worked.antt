@@ -2,7 +2,7 @@
 use Rattle.std.proofs.Common.{◌≡◌, [], ◌∷◌, map, sum_by, refl, lit≤, lit<}
 use Rattle.mp_model.specs.Network.{movement_numbers}
 use Rattle.mp_model.specs.Bounds.{credit_term, drift_constant, queue_threshold, greatest_drift, IsRoot, queue_bound}
-use Rattle.mp_gen.specs.Greatest.{greatest_of}
+use Rattle.mp_model.specs.Load.{greatest as greatest_of}
 use Rattle.mp_gen.specs.DemoNetwork.{demo_network}
 
 seven_credit_sum : sum_by (credit_term (demo_network 7)) (movement_numbers (demo_network 7)) ≡ 5440

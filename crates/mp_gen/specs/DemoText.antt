@@ -4,7 +4,7 @@ use Rattle.mp_model.specs.Network.{Network}
 use Rattle.mp_model.specs.Step.{State, queued}
 use Rattle.mp_model.specs.Run.{opening, state_after}
 use Rattle.mp_model.specs.Log.{slack_line, text_of}
-use Rattle.mp_gen.specs.Greatest.{greatest_of}
+use Rattle.mp_model.specs.Load.{greatest as greatest_of}
 use Rattle.mp_gen.specs.Demonstration.{greatest_queue}
 
 -- The six lines give the number of the demonstration, the slack, the greatest bound, the periods, how many vehicles entered, departed and are queued, and the greatest queue.

@@ -8,7 +8,7 @@ use Rattle.mp_model.specs.Step.{State}
 use Rattle.mp_model.specs.Run.{opening, advance, run, state_after}
 use Rattle.mp_step.specs.Standing.{Standing, Stands}
 use Rattle.mp_step.specs.Taken.{HasTaken}
-use Rattle.mp_gen.specs.Greatest.{greatest_of}
+use Rattle.mp_model.specs.Load.{greatest as greatest_of}
 use Rattle.mp_gen.specs.DemoArrivals.{IsDrawn, IsDemonstration}
 
 -- These are all queues of all states of the run over these arrivals.

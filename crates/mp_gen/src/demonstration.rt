@@ -4,7 +4,7 @@ ghost use Rattle.mp_model.specs.Run.{opening};
 ghost use Rattle.mp_press.specs.Queues.{naturals};
 ghost use Rattle.mp_step.specs.Standing.{Stands};
 ghost use Rattle.mp_step.specs.Taken.{HasTaken};
-ghost use Rattle.mp_gen.specs.Greatest.{greatest_of};
+ghost use Rattle.mp_model.specs.Load.{greatest as greatest_of};
 ghost use Rattle.mp_gen.specs.DemoNetwork.{demo_network};
 ghost use Rattle.mp_gen.specs.Demonstration.{Demonstrated, ClosesNext};
 

@@ -1,7 +1,7 @@
 //! The greatest of some numbers.
 ghost use Rattle.std.specs.Prelude.{◌≡◌, ◌<◌, length, slice_index};
 ghost use Rattle.mp_press.specs.Queues.{naturals};
-ghost use Rattle.mp_gen.specs.Greatest.{greatest_of};
+ghost use Rattle.mp_model.specs.Load.{greatest as greatest_of};
 
 // The number at a place, from 0, without its sign.
 fn number_at(numbers: &[i128], i: usize) -> u128

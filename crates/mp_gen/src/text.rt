@@ -3,7 +3,7 @@ ghost use Rattle.std.specs.Prelude.{◌≡◌, ℕ, List, sum};
 ghost use Rattle.mp_edge.specs.Outside.{Tells, Puts, HasCause};
 ghost use Rattle.mp_drift.specs.Bounded.{excess, denominator};
 ghost use Rattle.mp_press.specs.Queues.{naturals};
-ghost use Rattle.mp_gen.specs.Greatest.{greatest_of};
+ghost use Rattle.mp_model.specs.Load.{greatest as greatest_of};
 ghost use Rattle.mp_gen.specs.Demonstration.{Demonstrated};
 ghost use Rattle.mp_gen.specs.DemoText.{demo_text, demo_summary};
 

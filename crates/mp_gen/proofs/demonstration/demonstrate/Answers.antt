@@ -2,7 +2,7 @@ use Rattle.std.proofs.Common.{◌+◌, max, refl, ◌∙◌, ap, subst, arith}
 use Rattle.mp_model.specs.Network.{Network}
 use Rattle.mp_step.specs.Standing.{Standing}
 use Rattle.mp_drift.specs.Session.{Bounded}
-use Rattle.mp_gen.specs.Greatest.{greatest_of}
+use Rattle.mp_model.specs.Load.{greatest as greatest_of}
 use Rattle.mp_gen.specs.Demonstration.{ClosesNext}
 use Rattle.mp_gen.proofs.Periods.{shown_start, shown_more, shown_end}
 use Rattle.mp_gen.proofs.Limits.{demonstrated_below}

@@ -1,6 +1,6 @@
 use Rattle.std.proofs.Common.{◌≡◌, take}
 use Rattle.mp_press.specs.Queues.{naturals}
-use Rattle.mp_gen.specs.Greatest.{greatest_of}
+use Rattle.mp_model.specs.Load.{greatest as greatest_of}
 use Rattle.mp_gen.proofs.greatest.greatest_of.Given as goal
 
 abbrev pub invariant-loop-i : goal.invariant-loop-i

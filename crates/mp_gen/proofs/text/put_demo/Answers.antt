@@ -4,7 +4,7 @@ use Rattle.mp_text.specs.Buffered.{Buffered}
 use Rattle.mp_drift.specs.Bounded.{excess, denominator}
 use Rattle.mp_press.specs.Queues.{naturals}
 use Rattle.mp_step.specs.Standing.{Standing}
-use Rattle.mp_gen.specs.Greatest.{greatest_of}
+use Rattle.mp_model.specs.Load.{greatest as greatest_of}
 use Rattle.mp_gen.proofs.Texts.{text_is, same_text, summary_is}
 use Rattle.mp_gen.proofs.text.put_demo.Goals as goal
 
