@@ -4,3 +4,4 @@ pub mod Fitting
 pub mod Finding
 pub mod Opening
 pub mod Periods
+mod Worked

@@ -1,5 +1,5 @@
 -- How a session opens, or does not.
-use Rattle.std.proofs.Common.{◌≡◌, ◌≤◌, ℕ, ℤ, pos, ◌+ℤ◌, ◌*ℤ◌, neg_ℤ, ◌≤ℤ◌, ◌<ℤ◌, arith, sym, subst, Result, Err, ⊎_elim}
+use Rattle.std.proofs.Common.{◌≡◌, ◌≤◌, ℕ, ℤ, pos, ◌*ℤ◌, neg_ℤ, ◌≤ℤ◌, ◌<ℤ◌, arith, sym, subst, Err, ⊎_elim}
 use Rattle.std.proofs.lemmas.Int.{ints}
 use Rattle.mp_model.specs.Certificate.{Cert, Certifies}
 use Rattle.mp_model.specs.Network.{Network}
@@ -11,7 +11,7 @@ use Rattle.mp_flow.specs.declared.network.CalcFault.{CalcFault}
 use Rattle.mp_flow.specs.declared.network.CalcFault.TheVariants as calc
 use Rattle.mp_flow.specs.declared.network.Place.TheVariants as at
 use Rattle.mp_drift.specs.Bounded.{EndsAs}
-use Rattle.mp_drift.specs.Session.{IsRefused, open_fault}
+use Rattle.mp_drift.specs.Session.{IsAccepted, IsRefused, open_fault}
 
 positive_side : (x d : ℤ) → pos 1 ≤ℤ d → pos 1 ≤ℤ (x *ℤ d) → pos 1 ≤ℤ x
 positive_side x d some above =
@@ -27,8 +27,8 @@ pub slack_above : (num den e d : ℤ) → pos 1 ≤ℤ den → pos 1 ≤ℤ e �
 slack_above num den e d den_some e_some d_some same = positive_side num d d_some (subst (λ (z : ℤ). pos 1 ≤ℤ z) (sym same) (positive_product e den e_some den_some))
 
 -- what a fault of the bounds says
-pub calc_refused : (net : Network) (cert : Cert) (E D : ℕ) (fault : CalcFault) → Certifies net cert → IsSlack cert E D → EndsAs net E D (Err fault) → IsRefused net cert (open_fault fault)
-calc_refused net cert E D (calc.Overflow at.Bound) certifies slack ends = record { certifies = certifies; num = E; den = D; slack = slack; is = ends }
-calc_refused net cert E D (calc.Overflow at.Room) certifies slack ends = record { certifies = certifies; num = E; den = D; slack = slack; is = ends }
-calc_refused net cert E D calc.NoMemory certifies slack ends = tt
-calc_refused net cert E D fault certifies slack ends = absurd ends
+pub calc_refused : (net : Network) (cert : Cert) (E D : ℕ) (fault : CalcFault) → IsAccepted net cert → Certifies net cert → IsSlack cert E D → EndsAs net E D (Err fault) → IsRefused net cert (open_fault fault)
+calc_refused net cert E D (calc.Overflow at.Bound) accepted certifies slack ends = record { accepted = accepted; certifies = certifies; num = E; den = D; slack = slack; is = ends }
+calc_refused net cert E D (calc.Overflow at.Room) accepted certifies slack ends = record { accepted = accepted; certifies = certifies; num = E; den = D; slack = slack; is = ends }
+calc_refused net cert E D calc.NoMemory accepted certifies slack ends = tt
+calc_refused net cert E D fault accepted certifies slack ends = absurd ends

@@ -17,11 +17,15 @@ excess slack = unsigned_abs slack.num
 abbrev pub denominator : Fraction → ℕ
 denominator slack = unsigned_abs slack.den
 
+-- The stated calculation finds the greatest drift value under the slack E/D: nothing in it exceeds 128 bits.
+abbrev pub FindsGreatest : Network → ℕ → ℕ → Type 0
+FindsGreatest net E D = stated_greatest net E D ≡ Some (greatest_drift net E D)
+
 -- These are the queue threshold and the greatest drift value under the slack E/D, and the stated calculation finds them.
 pub record IsFound (net : Network) (E D total vmax : ℕ) : Type 0 where
   pub total_is : total ≡ queue_threshold net E D
   pub vmax_is : vmax ≡ greatest_drift net E D
-  pub stated : stated_greatest net E D ≡ Some (greatest_drift net E D)
+  pub stated : FindsGreatest net E D
 
 -- The numbers are the bounds of the movements under the slack E/D, and each is at most 2^62.
 pub record HoldsBounds (net : Network) (E D : ℕ) (numbers : List ℤ) : Type 0 where
@@ -32,14 +36,14 @@ pub record HoldsBounds (net : Network) (E D : ℕ) (numbers : List ℤ) : Type 0
 
 -- The greatest drift value is found, and then some bound of a movement is above 2^62.
 pub record HasNoRoom (net : Network) (E D : ℕ) : Type 0 where
-  pub found : stated_greatest net E D ≡ Some (greatest_drift net E D)
+  pub found : FindsGreatest net E D
   pub bounds : List ℕ
   pub are : AreBounds net E D bounds
   pub no_room : ¬ HasRoom bounds
 
 -- The stated calculation finds the greatest drift value where the bounds are given, and passes 128 bits where the fault says so; the other fault of the calculation is a bound without room.
 abbrev pub EndsAs : Network → ℕ → ℕ → Result QueueBounds CalcFault → Type 0
-EndsAs net E D (Ok found) = stated_greatest net E D ≡ Some (greatest_drift net E D)
+EndsAs net E D (Ok found) = FindsGreatest net E D
 EndsAs net E D (Err (Overflow Bound)) = stated_greatest net E D ≡ None
 EndsAs net E D (Err (Overflow Room)) = HasNoRoom net E D
 EndsAs net E D (Err (Overflow Flow)) = ⊥

@@ -1,5 +1,5 @@
 -- What a session keeps: a certified network, its bounds, and a run within them.
-use Rattle.std.specs.Prelude.{◌≡◌, ◌≤◌, ℕ, ℤ, List, None, Err}
+use Rattle.std.specs.Prelude.{◌≡◌, ◌≤◌, ℕ, ℤ, List, None, Ok, Err}
 use Rattle.mp_model.specs.Certificate.{Cert, Certifies}
 use Rattle.mp_model.specs.Bounds.{greatest_drift}
 use Rattle.mp_model.specs.DriftValue.{drift_value}
@@ -42,19 +42,24 @@ pub record IsBounded (s : Bounded) : Type 0 where
   pub on : IsOn s.net s.at
   pub drift : HasLowDrift s.net (excess s.slack) (denominator s.slack) s.at
 
--- The bounds under the slack of a certificate that certifies the network pass 128 bits, or one has no room.
+-- The check accepts the certificate: it meets every rule, and no calculation of a rule exceeds 128 bits.
+abbrev pub IsAccepted : Network → Cert → Type 0
+IsAccepted net cert = check_outcome net cert ≡ Ok tt
+
+-- The check accepts the certificate, and the bounds under its slack exceed 128 bits, or one has no room.
 pub record IsUnbounded (net : Network) (cert : Cert) (IsSo : Network → ℕ → ℕ → Type 0) : Type 0 where
+  pub accepted : IsAccepted net cert
   pub certifies : Certifies net cert
   pub num : ℕ
   pub den : ℕ
   pub slack : IsSlack cert num den
   pub is : IsSo net num den
 
--- The greatest drift value under the slack E/D passes 128 bits.
+-- The greatest drift value under the slack E/D exceeds 128 bits.
 abbrev pub PassesBound : Network → ℕ → ℕ → Type 0
 PassesBound net E D = stated_greatest net E D ≡ None
 
--- A session is not opened where the certificate is refused, where the bounds of its slack pass 128 bits or have no room, or for want of memory.
+-- A session is not opened where the check refuses the certificate, where it accepts it and the bounds of its slack exceed 128 bits or have no room, or for want of memory.
 abbrev pub IsRefused : Network → Cert → OpenFault → Type 0
 IsRefused net cert (RefusesCert fault) = check_outcome net cert ≡ Err fault
 IsRefused net cert (Calc (Overflow Bound)) = IsUnbounded net cert PassesBound

@@ -10,8 +10,8 @@ ghost use Rattle.mp_laws.specs.Buckets.{IsFirstAbove};
 ghost use Rattle.mp_cert.specs.Views.{cert_of};
 ghost use Rattle.mp_step.specs.Standing.{Stands};
 ghost use Rattle.mp_step.specs.Taken.{HasTaken};
-ghost use Rattle.mp_drift.specs.Bounded.{excess, denominator};
-ghost use Rattle.mp_drift.specs.Session.{IsBounded, IsRefused, open_fault};
+ghost use Rattle.mp_drift.specs.Bounded.{excess, denominator, FindsGreatest};
+ghost use Rattle.mp_drift.specs.Session.{IsAccepted, IsBounded, IsRefused, open_fault};
 
 use crate::numbers::constants;
 use crate::queue_bounds::bounds;
@@ -81,11 +81,16 @@ impl<'a> Model for Session<'a> {
 
 impl<'a> Session<'a> {
     /// Checks the certificate, finds the bounds for its slack, and stands at the opening of a run.
+    ///
+    /// A fault of the certificate comes exactly where the check has it, and one of a bound exactly where the check
+    /// accepts the certificate and the bounds have the fault.
     pub fn open(alloc: Global, net: &'a Net, cert: &Cert) -> Result<Session<'a>, OpenFault>
         requires { HasLengths net.now (cert_of cert.now) }
         ensures net { IfOk result (λ s. s.net ≡ net.now) }
+        ensures checked { OnOk result (IsAccepted net.now (cert_of cert.now)) }
         ensures certifies { IfOk result (λ s. Certifies net.now (cert_of cert.now)) }
         ensures slack { IfOk result (λ s. IsSlack (cert_of cert.now) (excess s.slack) (denominator s.slack)) }
+        ensures found { IfOk result (λ s. FindsGreatest net.now (excess s.slack) (denominator s.slack)) }
         ensures opening { IfOk result (λ s. Stands net.now s.at (opening net.now)) }
         ensures taken { IfOk result (λ s. HasTaken net.now s.at []) }
         ensures refused { IfErr result (IsRefused net.now (cert_of cert.now)) }

@@ -17,7 +17,7 @@ pub returns-in-Err-bounds-clause-refused : goal.returns-in-Err-bounds-clause-ref
 returns-in-Err-bounds-clause-refused c =
     let certifies : Certifies c.args.net.now (cert_of c.args.cert.now) = (c.in_default.ensures.accepts.0 refl).0 in
     let slack = c.slack-slack.ensures.slack (let some = certifies.excess in omega (arith, ints)) in
-    let refused = calc_refused c.args.net.now (cert_of c.args.cert.now) (excess c.slack-slack.result) (denominator c.slack-slack.result) c.in-Err-bounds.fault certifies slack c.in-Err-bounds.ensures.calculation in
+    let refused = calc_refused c.args.net.now (cert_of c.args.cert.now) (excess c.slack-slack.result) (denominator c.slack-slack.result) c.in-Err-bounds.fault (sym c.in_default.ensures.outcome) certifies slack c.in-Err-bounds.ensures.calculation in
     subst (IsRefused c.args.net.now (cert_of c.args.cert.now)) (sym c.open_fault.ensures) refused
 
 pub invariant_of-result : goal.invariant_of-result
