@@ -1,12 +1,12 @@
 -- The arrivals that a run has taken, and one more period.
-use Rattle.std.proofs.Common.{◌≡◌, ◌==◌, ◌≤◌, ◌<◌, ℕ, zero, suc, ◌+◌, ◌*◌, Bool, true, false, cond, List, [], ◌∷◌, ◌++◌, length, None, Some, arith, refl, sym, ◌∙◌, ap, subst, filter, map, eq-eqb}
-use Rattle.std.specs.Prelude.{find}
-use Rattle.std.specs.List.{AllByRecursion, range_with_len}
-use Rattle.std.proofs.lemmas.Bool.{or_left, or_right, true≢false}
+use Rattle.std.proofs.Common.{◌≡◌, ◌≤◌, ◌<◌, ℕ, ◌+◌, ◌*◌, true, false, List, [], ◌∷◌, ◌++◌, length, None, Some, refl, sym, ◌∙◌, ap, subst, map}
+use Rattle.std.specs.List.{AllByRecursion}
+use Rattle.std.proofs.lemmas.Bool.{true≢false}
 use Rattle.mp_model.specs.Network.{Network, has, link_numbers, link_at, is_fed, fed, entry}
 use Rattle.mp_model.specs.Arrivals.{arrivals_of, counts_of, next_level, level_after, StaysWithin, KeepsTo, HasCounts}
 use Rattle.mp_laws.specs.Buckets.{IsFirstAbove}
-use Rattle.mp_laws.proofs.Lists.{each_in, at_in, filter_sub, keep_all, find_none, numbered}
+use Rattle.mp_laws.proofs.Lists.{each_in, at_in, filter_sub, find_none, numbered}
+use Rattle.mp_laws.proofs.Levels.{stays_last, stays_more, counts_more, range_ascends, filter_ascends, found}
 use Rattle.mp_laws.proofs.Windows.{stays_within, keeps_to}
 use Rattle.mp_step.specs.BucketLevels.{level_then, is_above, first_above}
 use Rattle.mp_step.specs.Standing.{Standing}
@@ -18,18 +18,6 @@ level_more : (per rate b : ℕ) (cs : List ℕ) (c : ℕ) → level_after per ra
 level_more per rate b [] c = refl
 level_more per rate b (x ∷ cs) c = level_more per rate (next_level per rate b x) cs c
 
-stays_last : (per burst rate b : ℕ) (cs : List ℕ) (c : ℕ) → StaysWithin per burst rate b (cs ++ c ∷ []) → next_level per rate (level_after per rate b cs) c ≤ per * burst
-stays_last per burst rate b [] c s = s.0
-stays_last per burst rate b (x ∷ cs) c s = stays_last per burst rate (next_level per rate b x) cs c s.1
-
-stays_more : (per burst rate b : ℕ) (cs : List ℕ) (c : ℕ) → StaysWithin per burst rate b cs → next_level per rate (level_after per rate b cs) c ≤ per * burst → StaysWithin per burst rate b (cs ++ c ∷ [])
-stays_more per burst rate b [] c s h = (h, tt)
-stays_more per burst rate b (x ∷ cs) c s h = (s.0, stays_more per burst rate (next_level per rate b x) cs c s.1 h)
-
-counts_more : (net : Network) (A : List (List ℕ)) (counts : List ℕ) (l : ℕ) → counts_of net (A ++ counts ∷ []) l ≡ counts_of net A l ++ arrivals_of net counts l ∷ []
-counts_more net [] counts l = refl
-counts_more net (a ∷ A) counts l = ap (λ cs. arrivals_of net a l ∷ cs) (counts_more net A counts l)
-
 all_more : (P : List ℕ → Type 0) (A : List (List ℕ)) (counts : List ℕ) → AllByRecursion P A → P counts → AllByRecursion P (A ++ counts ∷ [])
 all_more P [] counts h p = (p, tt)
 all_more P (a ∷ A) counts h p = (h.0, all_more P A counts h.1 p)
@@ -40,47 +28,6 @@ taken_none net st zeros = record {
   permitted = record { counts = tt; windows = each_in _ (fed net) (λ l h. keeps_to net.per (link_at net l).burst (link_at net l).rate [] tt) };
   levels = each_in _ (link_numbers net) (λ l h. zeros l);
 }
-
--- the numbers ascend
-abbrev pub Ascends : List ℕ → Type 0
-Ascends [] = Unit {0}
-Ascends (x ∷ xs) = AllByRecursion (λ y. x < y) xs × Ascends xs
-
-above_all : (x a n : ℕ) → x < a → AllByRecursion (λ y. x < y) (range_with_len a n)
-above_all x a zero h = tt
-above_all x a (suc n) h = (h, above_all x (a + 1) n (omega arith))
-
-range_ascends : (a n : ℕ) → Ascends (range_with_len a n)
-range_ascends a zero = tt
-range_ascends a (suc n) = (above_all a (a + 1) n (omega arith), range_ascends (a + 1) n)
-
-filter_ascends : (p : ℕ → Bool) (xs : List ℕ) → Ascends xs → Ascends (filter p xs)
-filter_ascends p [] h = tt
-filter_ascends p (x ∷ xs) h = go (p x) (keep_all (λ y. x < y) p xs h.0) (filter_ascends p xs h.1)
-  where
-    go : (b : Bool) → AllByRecursion (λ y. x < y) (filter p xs) → Ascends (filter p xs) → Ascends (cond b (x ∷ filter p xs) (filter p xs))
-    go true a t = (a, t)
-    go false a t = t
-
-not_below : (x m : ℕ) (xs : List ℕ) (P : ℕ → Type 0) → x ≡ m → AllByRecursion (λ y. x < y) xs → AllByRecursion (λ y. y < m → P y) xs
-not_below x m [] P e h = tt
-not_below x m (y ∷ xs) P e h = (λ lt. absurd (omega (arith, h.0)), not_below x m xs P e h.1)
-
--- what is found passes, is there, and is the least that passes
-pub record IsFound (p : ℕ → Bool) (xs : List ℕ) (m : ℕ) : Type 0 where
-  pub passes : p m ≡ true
-  pub there : has xs m ≡ true
-  pub least : AllByRecursion (λ x. x < m → p x ≡ false) xs
-
-found : (p : ℕ → Bool) (xs : List ℕ) (m : ℕ) → Ascends xs → find p xs ≡ Some m → IsFound p xs m
-found p [] m a e = cc
-found p (x ∷ xs) m a e = go (found p xs m a.1) (p x) refl e
-  where
-    go : (find p xs ≡ Some m → IsFound p xs m) → (b : Bool) → p x ≡ b → cond b (Some x) (find p xs) ≡ Some m → IsFound p (x ∷ xs) m
-    go more true t e =
-        let s : x ≡ m = cc in
-        record { passes = ap p (sym s) ∙ t; there = or_left (x == m) (has xs m) (eq-eqb x m s); least = (λ lt. absurd (omega arith), not_below x m xs (λ y. p y ≡ false) s a.0) }
-    go more false t e = let f = more e in record { passes = f.passes; there = or_right (x == m) (has xs m) f.there; least = (λ lt. t, f.least) }
 
 module _ (net : Network) (st : Standing) (A : List (List ℕ)) (counts : List ℕ) (taken : HasTaken net st A) where
   fed_link : (l : ℕ) → has (fed net) l ≡ true → has (link_numbers net) l ≡ true
