@@ -17,3 +17,4 @@ pub mod SlackLemmas
 pub mod TextLengthLemmas
 pub mod WeighLaw
 pub mod WrittenLemmas
+mod Worked

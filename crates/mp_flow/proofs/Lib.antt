@@ -16,3 +16,4 @@ pub mod SystemLemmas
 pub mod BalanceLemmas
 pub mod RowLoopLemmas
 pub mod CalculatingLemmas
+mod Worked

@@ -18,3 +18,4 @@ pub mod AnswerLemmas
 pub mod MaximiseLemmas
 pub mod CheckingLemmas
 pub mod SummingLemmas
+mod Worked
