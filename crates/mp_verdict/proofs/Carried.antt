@@ -17,15 +17,15 @@ use Rattle.mp_verdict.proofs.Reduce.{of_filter}
 use Rattle.mp_verdict.proofs.Signed.{mul_posℤ}
 use Rattle.mp_verdict.proofs.Balance.{balance_is, whole_some}
 
-abbrev need_of : Network → ℕ → (ℕ → ℕ) → (ℕ → ℕ) → ℕ → ℕ → ℕ → ℕ
+abbrev pub need_of : Network → ℕ → (ℕ → ℕ) → (ℕ → ℕ) → ℕ → ℕ → ℕ → ℕ
 need_of net c f g a q k = share_of net k * f (from_of net k) * q + a * (net.per * unit_asked net c g k)
 
-abbrev mixes_of : (net : Network) (c : ℕ) (f g : ℕ → ℕ) (e : ℤ) (q : ℕ) (js : List Junction) → AllByRecursion (CarriesAt net c f g e q) js → List PlainMix
+abbrev pub mixes_of : (net : Network) (c : ℕ) (f g : ℕ → ℕ) (e : ℤ) (q : ℕ) (js : List Junction) → AllByRecursion (CarriesAt net c f g e q) js → List PlainMix
 mixes_of net c f g e q [] h = []
 mixes_of net c f g e q (j ∷ js) h = h.0.plan ∷ mixes_of net c f g e q js h.1
 
 -- the needs themselves, and the mixes that carry them, as a certificate
-abbrev cert_of : (net : Network) (c : ℕ) (f g : ℕ → ℕ) (a q : ℕ) → AllByRecursion (CarriesAt net c f g (pos a) q) net.junctions → PlainCert
+abbrev pub cert_of : (net : Network) (c : ℕ) (f g : ℕ → ℕ) (a q : ℕ) → AllByRecursion (CarriesAt net c f g (pos a) q) net.junctions → PlainCert
 cert_of net c f g a q s = record { d = net.shares * net.per * c * q; e = net.shares * net.per * c * a; h = map (need_of net c f g a q) (movement_numbers net); mixes = mixes_of net c f g (pos a) q net.junctions s }
 
 h_is : (net : Network) (c : ℕ) (f g : ℕ → ℕ) (a q : ℕ) (s : AllByRecursion (CarriesAt net c f g (pos a) q) net.junctions) (k : ℕ) → has (movement_numbers net) k ≡ true → plain_h (cert_of net c f g a q s) k ≡ need_of net c f g a q k

@@ -29,6 +29,7 @@ pub mod VectorOf
 pub mod Balance
 pub mod Carried
 pub mod Holders
+pub mod SignedCertificate
 pub mod Certified
 pub mod StandingLaw
 pub mod RatesThere

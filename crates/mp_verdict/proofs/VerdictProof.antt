@@ -10,7 +10,7 @@ use Rattle.mp_model.specs.NetworkRules.{IsNetwork}
 use Rattle.mp_model.specs.Certificate.{Cert, Certifies}
 use Rattle.mp_model.specs.Load.{load, capacity, IsOverloaded, IsVector}
 use Rattle.mp_model.specs.Slack.{IsSlack, ShowsSlack, IsGreatestSlack}
-use Rattle.mp_laws.proofs.Tied.{margin_of}
+use Rattle.mp_laws.proofs.Tied.{margin_of, tight as uncertified}
 use Rattle.mp_flow.specs.declared.network.Place.{Place}
 use Rattle.mp_flow.specs.Systems.{Flows, AreFlows, stated_flows}
 use Rattle.mp_verdict.specs.Stated.{Reached, at_place}
@@ -21,7 +21,7 @@ use Rattle.mp_verdict.specs.Mixes.{mixes, certificate_of, certificate_at}
 use Rattle.mp_verdict.specs.Verdict.{Verdict, Admitted, Critical, Overloaded, Motionless, judged, verdict_after, verdict}
 use Rattle.mp_verdict.specs.Worst.{IsDivided, against, ShowsSigned}
 use Rattle.mp_verdict.specs.VectorLaws.{ShowsBySign}
-use Rattle.mp_verdict.specs.Laws.{IsNatural, Holds, CertifiedLaw, VerdictLaw, ApartLaw, ExactLaw}
+use Rattle.mp_verdict.specs.Laws.{IsNatural, Holds, CertifiedLaw, CriticalLaw, VerdictLaw, ApartLaw, ExactLaw}
 use Rattle.mp_verdict.proofs.Plain.{CarriesAt}
 use Rattle.mp_verdict.proofs.FlowNumbers.{positive_is, above_one, flow_is}
 use Rattle.mp_verdict.proofs.RatesAt.{d_of, f_of, g_of}
@@ -32,6 +32,7 @@ use Rattle.mp_verdict.proofs.Whole.{game_sound, game_end}
 use Rattle.mp_verdict.proofs.VectorOf.{IsVectorOf, vector_is}
 use Rattle.mp_verdict.proofs.VectorLaw.{shows, by_sign}
 use Rattle.mp_verdict.proofs.Carried.{none_overloads}
+use Rattle.mp_verdict.proofs.SignedCertificate.{carries_rates}
 use Rattle.mp_verdict.proofs.Certified.{certifies, has_slack}
 use Rattle.mp_verdict.proofs.StandingLaw.{no_motion}
 
@@ -93,6 +94,10 @@ module _ (net : Network) (ok : IsNetwork net) (flows : Flows) (are : AreFlows ne
           tight = (map unsigned_abs p, tight);
           none = λ p' is. none_overloads net ok (d_of flows) (f_of flows) (g_of flows) (flow_is net flows are) 0 (unsigned_abs st.slack.den) sound.worst.slack.some carried (entry p');
         },
+        record {
+          carries = carries_rates net ok (d_of flows) (f_of flows) (g_of flows) (flow_is net flows are) (unsigned_abs st.slack.den) sound.worst.slack.some carried;
+          none = uncertified net ok (map unsigned_abs p) tight;
+        },
       )
   judged_holds (pos (suc n)) e w h =
       then_reached (certificate_at net flows st.slack) _ w h (λ cert hc e1.
@@ -129,6 +134,9 @@ holds X net ok weighed w h =
     then_reached (at_place Place.Flow (stated_flows net)) _ w h (λ flows hf e1.
     then_reached (game net flows) _ w e1 (λ standing hg e2.
     after_holds net ok weighed flows (flows_are net ok flows (at_place_reached Place.Flow (stated_flows net) flows hf)) standing hg w e2))
+
+pub critical : (X : Type 0) → CriticalLaw X
+critical X net ok weighed vector h = (holds X net ok weighed (Critical vector) h).3
 
 -- ---- no two hold
 margin_numbers : (d e s l c : ℕ) → 1 ≤ d → d * l + e * s ≤ d * c → l ≤ c

@@ -4,7 +4,7 @@ use Rattle.std.specs.List.{AllByRecursion}
 use Rattle.mp_model.specs.Sums.{int_sum_by}
 use Rattle.mp_model.specs.Network.{Network, Junction, junction_at, numbers_to, from_of, share_of, flow_of, own}
 use Rattle.mp_model.specs.NetworkRules.{IsNetwork}
-use Rattle.mp_model.specs.Certificate.{Cert, Mix, int_entry, parts_with, Certifies}
+use Rattle.mp_model.specs.Certificate.{Cert, Mix, int_entry, parts_with, Certifies, Carries}
 use Rattle.mp_model.specs.Load.{IsCritical, IsOverloaded, IsTight, ShowsOverload}
 use Rattle.mp_model.specs.Slack.{IsSlack, ShowsSlack, IsGreatestSlack}
 use Rattle.mp_num.specs.Fraction.{Fraction, IsLowest}
@@ -82,16 +82,25 @@ pub record IsNatural (net : Network) (vector : List ℤ) : Type 0 where
   pub lengths : length vector ≡ length net.movements
   pub signs : All (λ v. pos 0 ≤ℤ v) vector
 
--- A verdict holds of a network: it is admitted, critical with a tight vector, overloaded as its vector shows, or has no movement.
+-- A network carries its rates with nothing to spare where some certificate with the excess 0 meets all other rules, and none with a greater excess does.
+pub record CarriesJust (net : Network) : Type 0 where
+  pub carries : Carries net
+  pub none : (cert : Cert) → ¬ Certifies net cert
+
+-- A verdict holds of a network: it is admitted, critical with a tight vector and its rates just carried, overloaded as its vector shows, or has no movement.
 abbrev pub Holds : Network → Verdict → Type 0
 Holds net (Admitted cert vector slack) = IsNatural net vector × IsAdmitted net cert vector slack
-Holds net (Critical vector) = IsNatural net vector × IsTight net (map unsigned_abs vector) × IsCritical net
+Holds net (Critical vector) = IsNatural net vector × IsTight net (map unsigned_abs vector) × IsCritical net × CarriesJust net
 Holds net (Overloaded vector) = IsNatural net vector × ShowsOverload net (map unsigned_abs vector)
 Holds net Motionless = length net.movements ≡ 0
 
 -- The verdict of the stated calculation holds of the network, whatever the two sums of a vector are.
 abbrev pub VerdictLaw : Type 0 → Type 0
 VerdictLaw X = (net : Network) → IsNetwork net → (weighed : List ℤ → Option X) → (v : Verdict) → verdict net weighed ≡ Reached v → Holds net v
+
+-- A network that the stated calculation calls critical carries its rates with nothing to spare.
+abbrev pub CriticalLaw : Type 0 → Type 0
+CriticalLaw X = (net : Network) → IsNetwork net → (weighed : List ℤ → Option X) → (vector : List ℤ) → verdict net weighed ≡ Reached (Critical vector) → CarriesJust net
 
 -- No two verdicts hold of one network.
 pub record IsApart (net : Network) : Type 0 where

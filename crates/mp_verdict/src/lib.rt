@@ -1,7 +1,7 @@
 //! The mathematics of the verdict on a network: the stated calculation, and the laws above it, each on a function with an empty body.
 #![tactic(auto)]
 
-ghost use Rattle.mp_verdict.specs.Laws.{ApartLaw, BoundedLaw, CertifiedLaw, ExactLaw, MotionLaw, RatesLaw, SatisfiedLaw, VerdictLaw};
+ghost use Rattle.mp_verdict.specs.Laws.{ApartLaw, BoundedLaw, CertifiedLaw, CriticalLaw, ExactLaw, MotionLaw, RatesLaw, SatisfiedLaw, VerdictLaw};
 ghost use Rattle.mp_verdict.specs.TurnLaws.{FallsLaw, RoundsLaw};
 ghost use Rattle.mp_verdict.specs.VectorLaws.{FactsLaw, SignLaw, VectorLaw};
 ghost use Rattle.mp_verdict.specs.WorkedVerdicts.{AreWorkedVerdicts};
@@ -59,6 +59,11 @@ pub fn certified_law()
 /// The verdict of the stated calculation holds of the network.
 pub fn verdict_law<X>()
     ensures { VerdictLaw X }
+{}
+
+/// A critical network carries its rates with nothing to spare: some mix of its stages carries them, and no certificate certifies it.
+pub fn critical_law<X>()
+    ensures { CriticalLaw X }
 {}
 
 /// No two verdicts hold of one network.
