@@ -131,12 +131,14 @@ pub fn optimum_at(
     ensures calculation { Gives (λ o. o) result (optimum_at place j (maximised (program net.now (junction_at net.now j) (drop 2 rates.now)) limit)) }
     ensures meaning { IfOk result (λ o. IsOptimum (program net.now (junction_at net.now j) (drop 2 rates.now)) o) }
 {
+    let _shares = net.shares();
     let Ok(lp) = program(alloc, net, j, rates) else {
         return Err(CalcFault::NoMemory);
     };
     match maximise(alloc, &lp, limit) {
         Ok(optimum) => Ok(optimum),
-        Err(LpFault::Unbounded { ray: _ray }) => Err(CalcFault::Overflow(place)),
+        // Each movement of the junction stands in a stage, with a flow: no program grows without end.
+        Err(LpFault::Unbounded { ray: _ray }) => unreachable!(),
         Err(LpFault::Overflow { pivots: _pivots }) => Err(CalcFault::Overflow(place)),
         Err(LpFault::PivotLimit) => Err(CalcFault::PivotLimit(j)),
         Err(LpFault::NoMemory) => Err(CalcFault::NoMemory),
