@@ -1,9 +1,9 @@
 -- What a cutter takes off the text ahead, over plain lists.
-use Rattle.std.proofs.Common.{◌≡◌, ◌≤◌, ◌<◌, ℕ, ◌+◌, ◌-◌, List, [], ◌∷◌, ◌++◌, length, take, drop, sym, ◌∙◌, ap, subst, arith, Some, None}
+use Rattle.std.proofs.Common.{◌≡◌, ◌≤◌, ◌<◌, ℕ, ◌+◌, ◌-◌, List, [], ◌∷◌, ◌++◌, length, take, drop, refl, sym, ◌∙◌, ap, subst, arith, inl, inr, Some, None}
 use Rattle.std.specs.List.{position}
 use Rattle.std.proofs.lemmas.List.{append_assoc, append-nil, length-take, length-take-le, length-drop, take-take, drop-drop}
 use Rattle.mp_model.specs.Stream.{raw_lines, without_return}
-use Rattle.mp_text.specs.Cutting.{is_line_feed, CutsLine, StartsLong}
+use Rattle.mp_text.specs.Cutting.{is_line_feed, NoLineFeed, CutsLine, StartsLong, BeginsLine}
 use Rattle.mp_text.proofs.Lines.{first_line, no_line_feed}
 use Rattle.mp_text.proofs.RawLines.{ended_line, last_line, long_line}
 
@@ -17,6 +17,8 @@ feed_line n bytes have at len rest within small is short given =
     let size : length (take at bytes) ≡ at = length-take-le at bytes (omega arith) in
     record {
       raw = take at bytes;
+      plain = line.1;
+      ends = inl (ap (λ xs. xs ++ rest) line.2 ∙ append_assoc (take at bytes) (10 ∷ take (have - (at + 1)) (drop (at + 1) bytes)) rest);
       lines = ap (λ xs. raw_lines (xs ++ rest)) line.2
           ∙ ap raw_lines (append_assoc (take at bytes) (10 ∷ take (have - (at + 1)) (drop (at + 1) bytes)) rest)
           ∙ ended_line (take at bytes) (take (have - (at + 1)) (drop (at + 1) bytes) ++ rest) line.1;
@@ -60,6 +62,8 @@ front_last n buf have len text rest within some small same is short given none =
     let whole : len - 0 ≡ len = omega arith in
     rw (same, none, nothing, whole) (record {
       raw = take have buf;
+      plain = no_line_feed (take have buf) is;
+      ends = inr refl;
       lines = ap raw_lines (append-nil (take have buf)) ∙ last_line (take have buf) (no_line_feed (take have buf) is) (omega arith);
       fits = omega arith;
       given = sym (take-take len have buf (omega arith)) ∙ given;
@@ -71,3 +75,14 @@ front_long n buf have text rest within full some same is =
     let size : length (take have buf) ≡ have = length-take-le have buf within in
     let line = long_line (take have buf) rest (no_line_feed (take have buf) is) (omega arith) in
     record { raw = line.0; more = line.1; lines = ap raw_lines same ∙ line.2; long = omega (arith, line.3) }
+
+-- a front of the buffer without a line feed that does not fill it begins a line
+pub front_begins : (n : ℕ) (buf : List ℕ) (have : ℕ) (text rest : List ℕ) → have < n → text ≡ take have buf ++ rest → position is_line_feed (take have buf) ≡ None
+    → (text ≡ take (have - 0) (drop 0 buf) ++ rest) × BeginsLine n (take (have - 0) (drop 0 buf))
+front_begins n buf have text rest small same is =
+    let whole : have - 0 ≡ have = omega arith in
+    rw whole (same, (no_line_feed (take have buf) is, omega (arith, length-take have buf)))
+
+-- bytes in which no line feed was found have none
+pub none_held : {P : Type 0} (bytes held : List ℕ) → position is_line_feed bytes ≡ None → held ≡ bytes → (¬ NoLineFeed held) → P
+none_held bytes held is same some = absurd (some (subst NoLineFeed (sym same) (no_line_feed bytes is)))

@@ -1,16 +1,12 @@
 -- The first line of bytes in which a line feed stands.
 use Rattle.std.proofs.Common.{◌≡◌, ◌≤◌, ◌<◌, ℕ, ◌+◌, ◌-◌, List, ◌∷◌, ◌++◌, length, take, drop, get_or, false, sym, ◌∙◌, ap, subst, arith, Some, None}
-use Rattle.std.specs.List.{position, position_or_len, All}
+use Rattle.std.specs.List.{position, position_or_len}
 use Rattle.std.proofs.lemmas.List.{take-append-drop, drop_more, drop-take, length-take-le, get_or-take, take-take}
 use Rattle.std.proofs.lemmas.List.Quantifiers.{position-Some}
 use Rattle.std.proofs.lemmas.List.Sums.{fails_before_first}
 use Rattle.std.proofs.lemmas.Bool.Decides.{nat_tests}
 use Rattle.std.proofs.lemmas.List.Elements.{All-from_get_or}
-use Rattle.mp_text.specs.Cutting.{is_line_feed}
-
--- no byte is a line feed
-abbrev pub NoLineFeed : List ℕ → Type 0
-NoLineFeed bytes = All (λ b. is_line_feed b ≡ false) bytes
+use Rattle.mp_text.specs.Cutting.{is_line_feed, NoLineFeed}
 
 -- the bytes before it, the line feed, and those behind it
 pub first_line : (buf : List ℕ) (have at : ℕ) → have ≤ length buf → position is_line_feed (take have buf) ≡ Some at

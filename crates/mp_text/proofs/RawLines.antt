@@ -7,8 +7,7 @@ use Rattle.std.proofs.lemmas.List.Splits.{slice_split_at, slice_split_none, slic
 use Rattle.std.proofs.lemmas.List.Elements.{All-head, All-tail}
 use Rattle.std.proofs.lemmas.Bool.Decides.{nat_tests}
 use Rattle.mp_model.specs.Stream.{lines_of_parts, raw_lines, without_return}
-use Rattle.mp_text.specs.Cutting.{is_line_feed}
-use Rattle.mp_text.proofs.Lines.{NoLineFeed}
+use Rattle.mp_text.specs.Cutting.{is_line_feed, NoLineFeed, without_last, ended_lines}
 
 abbrev parts : List ℕ → List (List ℕ)
 parts text = slice_split is_line_feed text
@@ -32,6 +31,17 @@ ended_line line rest plain =
     let next = some_part rest in
     ap lines_of_parts (slice_split_at is_line_feed line 10 rest plain refl ∙ ap (λ ps. line ∷ ps) next.2)
     ∙ line_then line next.0 next.1 ∙ ap (λ ps. line ∷ lines_of_parts ps) (sym next.2)
+
+-- it is the first of those that a line feed ends
+pub ended_first : (line rest : List ℕ) → NoLineFeed line → ended_lines (line ++ 10 ∷ rest) ≡ line ∷ ended_lines rest
+ended_first line rest plain =
+    let next = some_part rest in
+    ap without_last (slice_split_at is_line_feed line 10 rest plain refl ∙ ap (λ ps. line ∷ ps) next.2)
+    ∙ ap (λ ps. line ∷ without_last ps) (sym next.2)
+
+-- and of a text without one there are none
+pub ended_none : (bytes : List ℕ) → NoLineFeed bytes → ended_lines bytes ≡ []
+ended_none bytes plain = ap without_last (slice_split_none is_line_feed bytes plain)
 
 -- a text without a line feed is one line
 pub last_line : (line : List ℕ) → NoLineFeed line → 0 < length line → raw_lines line ≡ line ∷ raw_lines []

@@ -76,6 +76,7 @@ fn find<S: Source>(buf: &mut [u8], have: &mut usize, src: &mut S) -> Found
     ensures end { result ≡ Found.End → (have.new ≡ 0) × Tells (S.left src.old) (S.left src.new) (λ _ now. now ≡ []) }
     ensures full { result ≡ Found.Full → (position is_line_feed (take have.new buf.new) ≡ None) × (have.new ≡ length buf.new) }
     ensures later { S.faults src.old ≤ S.faults src.new }
+    ensures unended { result ≡ Found.Failed → (position is_line_feed (take have.new buf.new) ≡ None) × (have.new < length buf.new) }
     ensures failed { result ≡ Found.Failed → Rose (S.faults src.old) (S.faults src.new) }
 {
     loop {
@@ -120,7 +121,7 @@ impl<const N: usize> Model for LineCutter<N> {
 }
 
 impl<const N: usize> LineCutter<N> {
-    ghost use Rattle.mp_text.specs.Cutting.{Cuts};
+    ghost use Rattle.mp_text.specs.Cutting.{NoLineFeed, Cuts};
 
     /// A cutter before its first line.
     pub fn new() -> Self
@@ -148,6 +149,7 @@ impl<const N: usize> LineCutter<N> {
     /// have no line feed and are fewer than N, each time for all that is left of the N bytes.
     pub fn next<S: Source>(&mut self, src: &mut S) -> LineStep
         ensures told { Tells (S.left src.old) (S.left src.new) (Cuts N result self.old self.new) }
+        ensures unasked { (¬ NoLineFeed self.old.held) → src.new ≡ src.old }
         ensures later { S.faults src.old ≤ S.faults src.new }
         ensures failed { result ≡ LineStep.Failed → Rose (S.faults src.old) (S.faults src.new) }
     {

@@ -16,3 +16,6 @@ returns-else-now-eq0-clause-last g c = λ _. (
   omega arith,
   Tells-then _ _ _ _ _ _ (λ was mid now t f. none_left _ _ _ _ mid now c.in-Ok.ensures.kept (search rules) f) c.loop-at.invariant.told c.in-Ok.ensures.told,
 )
+
+pub returns-in-Err-clause-unended : goal.returns-in-Err-clause-unended
+returns-in-Err-clause-unended g c = λ _. (rw c.in-Err.ensures.kept (search rules), omega arith)
