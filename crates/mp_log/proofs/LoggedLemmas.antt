@@ -1,5 +1,5 @@
 -- Counts that were read off the line of a period, before those to come.
-use Rattle.std.proofs.Common.{Bor, Bool, MatchBool, is_some, ◌≡◌, ◌≢◌, ◌≤◌, ◌<◌, ◌^◌, ℕ, suc, ◌+◌, List, [], ◌∷◌, ◌++◌, true, false, cond, length, take, drop, get_or, refl, sym, ◌∙◌, ap, subst, Option, MatchOption, Some, None, arith}
+use Rattle.std.proofs.Common.{Bor, Bool, MatchBool, ◌≡◌, ◌≢◌, ◌≤◌, ◌<◌, ◌^◌, ℕ, suc, ◌+◌, List, [], ◌∷◌, ◌++◌, true, false, cond, length, take, drop, get_or, refl, sym, ◌∙◌, ap, subst, Option, MatchOption, Some, None, arith}
 use Rattle.std.specs.Prelude.{◌==◌, codes, decimal, nat_lt}
 use Rattle.std.specs.List.{position, position_or_len, All}
 use Rattle.std.proofs.lemmas.List.{append_assoc, append-nil, append_cancel_left, length-append, take_at, take-append-drop, drop_more, get_or_at, get_or_append_left}
@@ -9,7 +9,7 @@ use Rattle.std.proofs.lemmas.List.Sums.{position_or_len_is}
 use Rattle.std.proofs.lemmas.Bool.Decides.{nat_tests}
 use Rattle.mp_model.specs.Log.{spaced, period_line}
 use Rattle.mp_model.specs.Stream.{count_of}
-use Rattle.mp_log.specs.Logged.{BeginsPeriod, BeginsCounts, BeginsCount}
+use Rattle.mp_log.specs.Logged.{BeginsPeriod, BeginsCounts, BeginsCount, EndsField}
 use Rattle.mp_log.proofs.DigitLemmas.{spaceless, count_written, written_count}
 
 -- no byte is a space
@@ -174,12 +174,13 @@ reading_fails bytes fed rest read i r more none counts b =
     let o = r.only counts b in
     let size = r.few in none_more rest read counts o.0 b.rest fed b.count (omega arith) b.digits o.1 o.2 none
 
--- the letter of the stages stands behind the last count
-pub reading_ends : (bytes : List ℕ) (fed : ℕ) (rest read after : List ℕ) → Reading bytes fed rest read fed → rest ≡ codes " s" ++ after → BeginsCounts bytes fed read
-reading_ends bytes fed rest read after r is = record {
+-- the field `s` stands behind the last count
+reading_ends : (bytes : List ℕ) (fed : ℕ) (rest read after : List ℕ) → Reading bytes fed rest read fed → rest ≡ codes " s" ++ after → EndsField after → BeginsCounts bytes fed read
+reading_ends bytes fed rest read after r is whole = record {
   count = r.few;
   digits = r.digits;
   rest = after;
+  whole = whole;
   text = r.so_far ∙ ap (λ xs. spaced read ++ xs) is ∙ sym (append_assoc (spaced read) (codes " s") after);
 }
 
@@ -187,7 +188,7 @@ none_left : (rest read counts more after : List ℕ) → length counts ≡ lengt
 none_left rest read counts [] after size are is = is
 none_left rest read counts (y ∷ more) after size are is = absurd (omega (arith, ap (length {A = ℕ}) are, length-append read (y ∷ more)))
 
-pub reading_lacks : (bytes : List ℕ) (fed : ℕ) (rest read : List ℕ) → Reading bytes fed rest read fed → ((after : List ℕ) → rest ≢ codes " s" ++ after) → (counts : List ℕ) → ¬ BeginsCounts bytes fed counts
+reading_lacks : (bytes : List ℕ) (fed : ℕ) (rest read : List ℕ) → Reading bytes fed rest read fed → ((after : List ℕ) → rest ≢ codes " s" ++ after) → (counts : List ℕ) → ¬ BeginsCounts bytes fed counts
 reading_lacks bytes fed rest read r none counts b = let o = r.only counts b in none b.rest (none_left rest read counts o.0 b.rest (b.count ∙ sym r.few) o.1 o.2)
 
 -- the counts stand behind the number of the period
@@ -202,6 +203,7 @@ period_from line period fed bytes counts is b = record {
   count = b.count;
   digits = b.digits;
   rest = b.rest;
+  whole = b.whole;
   text = is ∙ ap (λ xs. front period ++ xs) b.text ∙ sym (regrouped period counts b.rest);
 }
 
@@ -210,6 +212,7 @@ counts_from line period fed bytes counts is b = record {
   count = b.count;
   digits = b.digits;
   rest = b.rest;
+  whole = b.whole;
   text = append_cancel_left (front period) bytes (spaced counts ++ codes " s" ++ b.rest) (sym is ∙ b.text ∙ regrouped period counts b.rest);
 }
 
@@ -235,11 +238,21 @@ behind_letter line number letter digits period None is written behind none = λ 
 behind_letter line number letter digits period (Some x) is written behind some =
     is ∙ ap (λ xs. codes "p " ++ xs) (behind ∙ ap (λ (xs : List ℕ). xs ++ letter) written ∙ ap (λ xs. decimal period ++ xs) some) ∙ sym (parted period x.now)
 
--- whether the letter of the stages stands behind the last count
-pub last_letter : (bytes : List ℕ) (fed : ℕ) (rest read : List ℕ) (i : ℕ) (r : Option (Bor (List ℕ))) (found : Bool) → Reading bytes fed rest read i → i ≡ fed → found ≡ is_some r
-    → MatchOption r ((after : List ℕ) → rest ≢ codes " s" ++ after) (λ x. rest ≡ codes " s" ++ x.now) → MatchBool found (BeginsCounts bytes fed read) ((counts : List ℕ) → ¬ BeginsCounts bytes fed counts)
-last_letter bytes fed rest read i None found r all is none = rw is (reading_lacks bytes fed rest read (subst (λ k. Reading bytes fed rest read k) all r) none)
-last_letter bytes fed rest read i (Some x) found r all is some = rw is (reading_ends bytes fed rest read x.now (subst (λ k. Reading bytes fed rest read k) all r) some)
+-- no field `s` stands behind it, where other bytes follow its letter
+reading_goes_on : (bytes : List ℕ) (fed : ℕ) (rest read after : List ℕ) → Reading bytes fed rest read fed → rest ≡ codes " s" ++ after → ¬ EndsField after → (counts : List ℕ) → ¬ BeginsCounts bytes fed counts
+reading_goes_on bytes fed rest read after r is goes_on counts b =
+    let o = r.only counts b in
+    let left : rest ≡ codes " s" ++ b.rest = none_left rest read counts o.0 b.rest (b.count ∙ sym r.few) o.1 o.2 in
+    goes_on (subst EndsField (append_cancel_left (codes " s") b.rest after (sym left ∙ is)) b.whole)
+
+-- whether the field `s` stands behind the last count
+pub no_letter : (bytes : List ℕ) (fed : ℕ) (rest read : List ℕ) (i : ℕ) → Reading bytes fed rest read i → i ≡ fed → ((after : List ℕ) → rest ≢ codes " s" ++ after) → (counts : List ℕ) → ¬ BeginsCounts bytes fed counts
+no_letter bytes fed rest read i r all none = reading_lacks bytes fed rest read (subst (λ k. Reading bytes fed rest read k) all r) none
+
+pub last_letter : (bytes : List ℕ) (fed : ℕ) (rest read after : List ℕ) (i : ℕ) (ends : Bool) → Reading bytes fed rest read i → i ≡ fed → rest ≡ codes " s" ++ after → MatchBool ends (EndsField after) (¬ EndsField after)
+    → MatchBool ends (BeginsCounts bytes fed read) ((counts : List ℕ) → ¬ BeginsCounts bytes fed counts)
+last_letter bytes fed rest read after i true r all is whole = reading_ends bytes fed rest read after (subst (λ k. Reading bytes fed rest read k) all r) is whole
+last_letter bytes fed rest read after i false r all is goes_on = reading_goes_on bytes fed rest read after (subst (λ k. Reading bytes fed rest read k) all r) is goes_on
 
 -- counts before the letter of the stages are told by their digits
 same_spaced : (xs ys t u : List ℕ) → length xs ≡ length ys → All (λ a. a < 10 ^ 9) xs → All (λ a. a < 10 ^ 9) ys → spaced xs ++ codes " s" ++ t ≡ spaced ys ++ codes " s" ++ u → xs ≡ ys
@@ -259,6 +272,11 @@ one_period line period fed xs ys a b =
     same_spaced xs ys a.rest b.rest (a.count ∙ sym b.count) a.digits b.digits
     (append_cancel_left (front period) (spaced xs ++ codes " s" ++ a.rest) (spaced ys ++ codes " s" ++ b.rest) (sym (regrouped period xs a.rest) ∙ sym a.text ∙ b.text ∙ regrouped period ys b.rest))
 
+-- a space stands before the stages, or before the queues
+stages_apart : (stages queues : List ℕ) → EndsField (spaced stages ++ codes " q" ++ spaced queues)
+stages_apart [] queues = refl
+stages_apart (stage ∷ stages) queues = refl
+
 -- the line of a period begins with its counts
 pub period_begins : (period : ℕ) (counts stages queues : List ℕ) → All (λ a. a < 10 ^ 9) counts → BeginsPeriod (period_line period counts stages queues) period (length counts) counts
 period_begins period counts stages queues small =
@@ -267,5 +285,6 @@ period_begins period counts stages queues small =
       count = refl;
       digits = small;
       rest = spaced stages ++ codes " q" ++ spaced queues;
+      whole = stages_apart stages queues;
       text = ap (λ xs. xs ++ spaced queues) (append_assoc head (spaced stages) (codes " q")) ∙ append_assoc head (spaced stages ++ codes " q") (spaced queues);
     }

@@ -2,7 +2,7 @@
 ghost use Rattle.std.specs.Prelude.{◌≡◌, ◌≢◌, ◌==◌, ◌≤◌, ◌<◌, ◌++◌, ◌∷◌, [], ℕ, List, None, IfSome, OnSome, MatchOption, MatchBool, codes, decimal, drop, length, true, false, Some};
 ghost use Rattle.std.specs.List.{position};
 ghost use Rattle.arrayvec.specs.ArrayVec.{array_vec_len};
-ghost use Rattle.mp_log.specs.Logged.{BeginsPeriod, BeginsCounts, BeginsCount};
+ghost use Rattle.mp_log.specs.Logged.{BeginsPeriod, BeginsCounts, BeginsCount, EndsField};
 
 use arrayvec::ArrayVec;
 use itoa::Buffer;
@@ -60,7 +60,17 @@ fn from(bytes: &[u8], at: usize) -> &[u8]
     &bytes[at..]
 }
 
-// Appends as many counts as links are fed, where they and the letter of the stages stand at the front.
+// Says whether a field ends before these bytes.
+fn ends_field(bytes: &[u8]) -> bool
+    ensures { MatchBool result (EndsField bytes.now) (¬ EndsField bytes.now) }
+{
+    match bytes {
+        [] => true,
+        [first, ..] => *first == b' ',
+    }
+}
+
+// Appends as many counts as links are fed, where they and the field `s` stand at the front.
 fn read_logged(bytes: &[u8], fed: usize, into: &mut ArrayVec<u64, 128>) -> bool
     requires few { fed ≤ 128 }
     requires empty { into.old.items ≡ [] }
@@ -74,14 +84,17 @@ fn read_logged(bytes: &[u8], fed: usize, into: &mut ArrayVec<u64, 128>) -> bool
         into.push(count);
         rest = from(rest, at);
     }
-    behind(rest, b" s").is_some()
+    let Some(after) = behind(rest, b" s") else {
+        return false;
+    };
+    ends_field(after)
 }
 
 /// Reads the arrivals of a line that begins as the line of this period: with its number, `fed` counts
-/// below 10^9, of which there may be 128 at most, and the letter of the stages behind them.
+/// below 10^9, of which there may be 128 at most, and the field `s` behind them.
 ///
 /// `None` comes exactly where the line does not begin so, and then `into` is empty. What follows that
-/// letter is not looked at, and no memory is taken.
+/// field is not looked at, and no memory is taken.
 pub fn read_arrivals(
     line: &[u8],
     period: u64,
