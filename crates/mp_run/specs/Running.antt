@@ -1,5 +1,5 @@
 -- What is read of a stream, and what is written of its run.
-use Rattle.std.specs.Prelude.{◌≡◌, ◌≤◌, ◌^◌, ℕ, ◌+◌, List, [], ◌∷◌, ◌++◌, length, Option, Some, None}
+use Rattle.std.specs.Prelude.{◌≡◌, ◌≤◌, ◌⊎◌, ◌^◌, ℕ, ◌+◌, List, [], ◌∷◌, ◌++◌, length, map, Option, Some, None}
 use Rattle.std.specs.List.{AllByRecursion}
 use Rattle.mp_edge.specs.Outside.{Tells, GainsPrefix}
 use Rattle.mp_model.specs.Network.{Network, movement_numbers, entry}
@@ -7,9 +7,10 @@ use Rattle.mp_model.specs.Arrivals.{IsPermitted}
 use Rattle.mp_model.specs.Step.{State, queue}
 use Rattle.mp_model.specs.Run.{opening, advance, state_after, run}
 use Rattle.mp_model.specs.Log.{text_of, line_after, end_line, period_lines, run_text}
-use Rattle.mp_model.specs.Stream.{LineKind, plain_kinds, arrivals_of_kinds}
+use Rattle.mp_model.specs.Stream.{LineKind, line_kind, without_events, plain_kinds, arrivals_of_kinds}
 use Rattle.mp_model.specs.Stream.LineKind.{skipped_line, arrivals_line, long_line, bad_line, hear_line, decide_line}
 use Rattle.mp_laws.specs.Buckets.{IsFirstAbove}
+use Rattle.mp_text.specs.Cutting.{NoLineFeed, ended_lines}
 use Rattle.mp_step.specs.Standing.{Standing, Stands}
 use Rattle.mp_step.specs.Taken.{HasTaken}
 use Rattle.mp_run.specs.declared.run.RunEnd.{RunEnd}
@@ -29,6 +30,17 @@ pub record StartsWith (net : Network) (text : List ℕ) (kinds more : List LineK
   pub lines : plain_kinds net text ≡ kinds ++ more
   pub taken : AllByRecursion IsTaken kinds
 
+-- These are the kinds of the lines of a text that a line feed ends.
+abbrev pub ended_kinds : Network → List ℕ → List LineKind
+ended_kinds net text = map (λ raw. without_events (line_kind net raw)) (ended_lines text)
+
+-- A front of the text was read, with the rest left: its lines that a line feed ends, or all lines where nothing is left, are of these kinds and of more, and the first of them were taken.
+pub record ReadsFront (net : Network) (kinds more : List LineKind) (text rest : List ℕ) : Type 0 where
+  pub front : List ℕ
+  pub splits : text ≡ front ++ rest
+  pub lines : (ended_kinds net front ≡ kinds ++ more) ⊎ ((rest ≡ []) × (plain_kinds net text ≡ kinds ++ more))
+  pub taken : AllByRecursion IsTaken kinds
+
 -- The lines of a text before line n are taken and their arrivals are permitted, line n gives the arrivals of period p, and in it l is the least link that does not keep to its bucket.
 pub record IsAboveAt (net : Network) (text : List ℕ) (n p l : ℕ) : Type 0 where
   pub kinds : List LineKind
@@ -40,26 +52,29 @@ pub record IsAboveAt (net : Network) (text : List ℕ) (n p l : ℕ) : Type 0 wh
   pub permitted : IsPermitted net (arrivals_of_kinds kinds)
   pub above : IsFirstAbove net (arrivals_of_kinds kinds) counts l
 
--- The stream was read to its end, each of its lines was taken, its arrivals are permitted, and behind the head the text of the run over them was written.
+-- The stream was read to its end, each of its lines was taken, at most 2^48 of them, its arrivals are permitted, and behind the head the text of the run over them was written.
 pub record Finished (net : Network) (head : List ℕ) (whole left was now : Option (List ℕ)) : Type 0 where
   pub kinds : List LineKind
+  pub few : length kinds ≤ 2 ^ 48
   pub permitted : IsPermitted net (arrivals_of_kinds kinds)
   pub read : Tells whole left (λ text rest. (rest ≡ []) × StartsWith net text kinds [])
   pub written : Tells was now (λ before after. after ≡ before ++ (head ++ run_text net (arrivals_of_kinds kinds)))
 
--- The lines before line n were taken, their arrivals are permitted, line n is of this kind, and behind the head the lines of the periods before it were written.
+-- The lines before line n, which is at most 2^48, were taken, their arrivals are permitted, line n is of this kind, and behind the head the lines of the periods before it were written.
 pub record RefusedAt (net : Network) (head : List ℕ) (kind : LineKind) (n : ℕ) (whole left was now : Option (List ℕ)) : Type 0 where
   pub kinds : List LineKind
   pub number : n ≡ length kinds + 1
+  pub few : n ≤ 2 ^ 48
   pub permitted : IsPermitted net (arrivals_of_kinds kinds)
   pub read : Tells whole left (λ text rest. (more : List LineKind) × StartsWith net text kinds (kind ∷ more))
   pub written : Tells was now (λ before after. after ≡ before ++ (head ++ text_of (period_lines net (arrivals_of_kinds kinds))))
 
--- The lines before line n were taken, their arrivals are permitted, line n gives the arrivals of period p, in which l is the least link that does not keep to its bucket, and behind the head the lines of the periods before p were written.
+-- The lines before line n, which is at most 2^48, were taken, their arrivals are permitted, line n gives the arrivals of period p, in which l is the least link that does not keep to its bucket, and behind the head the lines of the periods before p were written.
 pub record RefusedAbove (net : Network) (head : List ℕ) (n p l : ℕ) (whole left was now : Option (List ℕ)) : Type 0 where
   pub kinds : List LineKind
   pub counts : List ℕ
   pub number : n ≡ length kinds + 1
+  pub few : n ≤ 2 ^ 48
   pub period : p ≡ length (arrivals_of_kinds kinds) + 1
   pub permitted : IsPermitted net (arrivals_of_kinds kinds)
   pub above : IsFirstAbove net (arrivals_of_kinds kinds) counts l
@@ -74,19 +89,27 @@ pub record HasTooMany (net : Network) (head : List ℕ) (whole left was now : Op
   pub read : Tells whole left (λ text rest. (kind : LineKind) × (more : List LineKind) × StartsWith net text kinds (kind ∷ more))
   pub written : Tells was now (λ before after. after ≡ before ++ (head ++ text_of (period_lines net (arrivals_of_kinds kinds))))
 
--- The lines read so far were taken, their arrivals are permitted, and behind the head the lines of their periods were written.
+-- The lines of the front that was read were taken, at most 2^48 of them, their arrivals are permitted, and behind the head the lines of their periods were written.
 pub record StopsReading (net : Network) (head : List ℕ) (whole left was now : Option (List ℕ)) : Type 0 where
   pub kinds : List LineKind
+  pub few : length kinds ≤ 2 ^ 48
   pub permitted : IsPermitted net (arrivals_of_kinds kinds)
-  pub read : Tells whole left (λ text rest. (more : List LineKind) × StartsWith net text kinds more)
+  pub read : Tells whole left (ReadsFront net kinds [])
   pub written : Tells was now (λ before after. after ≡ before ++ (head ++ text_of (period_lines net (arrivals_of_kinds kinds))))
 
--- The lines read so far were taken, their arrivals are permitted, and a prefix of the head and the text of the run over them was written.
+-- A prefix of the head and the lines of the periods was written; or, where the stream was read to its end and each of its lines was taken, of the head and the text of the run.
+abbrev pub WritesPart : Network → List ℕ → List LineKind → Option (List ℕ) → Option (List ℕ) → Option (List ℕ) → Option (List ℕ) → Type 0
+WritesPart net head kinds whole left was now =
+    Tells was now (GainsPrefix (head ++ text_of (period_lines net (arrivals_of_kinds kinds))))
+    ⊎ (Tells whole left (λ text rest. (rest ≡ []) × StartsWith net text kinds []) × Tells was now (GainsPrefix (head ++ run_text net (arrivals_of_kinds kinds))))
+
+-- Lines of the front that was read were taken, at most 2^48 of them, their arrivals are permitted, and a part of what is written of them was written, with nothing of the end line before the end of the stream.
 pub record StopsWriting (net : Network) (head : List ℕ) (whole left was now : Option (List ℕ)) : Type 0 where
   pub kinds : List LineKind
+  pub few : length kinds ≤ 2 ^ 48
   pub permitted : IsPermitted net (arrivals_of_kinds kinds)
-  pub read : Tells whole left (λ text rest. (more : List LineKind) × StartsWith net text kinds more)
-  pub written : Tells was now (GainsPrefix (head ++ run_text net (arrivals_of_kinds kinds)))
+  pub read : Tells whole left (λ text rest. (more : List LineKind) × ReadsFront net kinds more text rest)
+  pub written : WritesPart net head kinds whole left was now
 
 -- This is what each end of a run says, where a head stands before its text.
 abbrev pub EndsAs : Network → List ℕ → RunEnd → Option (List ℕ) → Option (List ℕ) → Option (List ℕ) → Option (List ℕ) → Type 0
@@ -166,11 +189,20 @@ Finishes net (Long n) standing was now = ⊥
 Finishes net (Grammar n) standing was now = ⊥
 Finishes net (Above n p l) standing was now = ⊥
 
+-- Lines of these kinds, each ended by a line feed, stand before the rest of a text, or nothing is left of it.
+abbrev pub StandsBefore : Network → List LineKind → List ℕ → List ℕ → Type 0
+StandsBefore net kinds text rest =
+    ((lines : List (List ℕ)) × AllByRecursion NoLineFeed lines × (text ≡ text_of lines ++ rest) × (kinds ≡ map (λ raw. without_events (line_kind net raw)) lines)) ⊎ (rest ≡ [])
+
+-- Lines of these kinds were taken off a text, and this is left of it.
+abbrev pub Leaves : Network → List LineKind → List ℕ → List ℕ → Type 0
+Leaves net kinds text rest = StartsWith net text kinds (plain_kinds net rest) × StandsBefore net kinds text rest
+
 -- In the middle of a run: the kinds of the lines so far, where their permitted arrivals lead, what is to come, and what was written.
 pub record Progress (net : Network) (whole left : Option (List ℕ)) (held : List ℕ) (was now : Option (List ℕ)) (standing : Standing) (lines : ℕ) : Type 0 where
   pub kinds : List LineKind
   pub count : length kinds ≡ lines
   pub stands : Stands net standing (state_after net (opening net) (arrivals_of_kinds kinds))
   pub taken : HasTaken net standing (arrivals_of_kinds kinds)
-  pub to_come : Tells whole left (λ text rest. StartsWith net text kinds (plain_kinds net (held ++ rest)))
+  pub to_come : Tells whole left (λ text rest. Leaves net kinds text (held ++ rest))
   pub written : Tells was now (λ before after. after ≡ before ++ text_of (period_lines net (arrivals_of_kinds kinds)))
