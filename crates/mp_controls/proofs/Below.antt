@@ -16,6 +16,7 @@ use Rattle.mp_laws.proofs.Bridge.{to_plain, plain_holds}
 use Rattle.mp_laws.proofs.Keeps.{few_queued}
 use Rattle.mp_laws.proofs.Lists.{each_in}
 use Rattle.mp_laws.proofs.PlainCertificate.{PlainCert, Holds}
+use Rattle.mp_laws.proofs.Serve.{nearly}
 use Rattle.mp_laws.proofs.Sums.{sum_by-le_at, sum_by-add, sum_by-mul}
 use Rattle.mp_laws.proofs.Tied.{excess_is, slack_is, one_period_of}
 use Rattle.mp_controls.proofs.Still.{still_movement, brings_less}
@@ -78,5 +79,5 @@ below net ok some cert c E D slack stages arrivals q phase level q' phase' level
     let E_some = excess_some (nat_abs cert.e) D E (nat_abs cert.d) (slack_is net cert c E D slack) e.1 slack.lowest.denominator in
     below_numbers D (drift_value net q phase level) (drift_value net q' phase' level') (drift_constant net) (2 * (net.shares * net.per * (net.shares * net.per)) * E) (sum_by q (movement_numbers net)) (queue_threshold net E D) (greatest_drift net E D)
     slack.lowest.denominator (omega (arith, mul-le-mul (mul-le-mul w w) E_some))
-    (one_period_of net ok cert c E D slack stages arrivals q phase level q' phase' level' greatest period) refl top (few_queued net ok E D q phase level within)
+    (one_period_of net ok cert c E D slack stages arrivals q phase level q' phase' level' (nearly net q net.junctions stages greatest) period) refl top (few_queued net ok E D q phase level within)
     (still_below net ok some (to_plain cert) (plain_holds net ok cert c.rules e.0) e.1 stages arrivals q phase level q' phase' level' period within)

@@ -5,7 +5,7 @@ use Rattle.std.proofs.Math.Nat.{le_of_mul-le-mul_left, lt-mul-div-succ, div-mul-
 use Rattle.std.proofs.lemmas.Bool.{cases_lt}
 use Rattle.std.proofs.lemmas.List.Sums.{sum_by-cons}
 use Rattle.std.proofs.lemmas.List.FromFn.{length-range_with_len}
-use Rattle.mp_model.specs.Bounds.{credit_term, step_term, drift_constant, queue_threshold, greatest_drift}
+use Rattle.mp_model.specs.Bounds.{credit_term, step_term, drift_constant, queue_threshold, greatest_drift, threshold_drift}
 use Rattle.mp_model.specs.Certificate.{Cert, Certifies}
 use Rattle.mp_model.specs.Network.{Network, movement_numbers, link_numbers, link_at, from_of, share_of, flow_of, rate_before, burst_before, out_of, has, stands_in}
 use Rattle.mp_model.specs.NetworkRules.{IsNetwork}
@@ -133,9 +133,9 @@ left_parts : (D B c : ℕ) → 1 ≤ c → (D * B ≡ c * (D * B / c) + (D * B -
 left_parts D B c some = let low = div-mul-le_self (D * B) c in let high = lt-mul-div-succ (D * B) some in (omega (arith, low), omega (arith, low, high))
 
 -- one vehicle more would keep within the greatest drift value
-pub one_more : (net : Network) → IsNetwork net → HasBurst net → 3 ≤ length net.movements → (cert : Cert) → Certifies net cert → (E D : ℕ) → IsSlack cert E D → (a : ℕ) → a * a ≤ closer_drift net E D →
-    (a + net.shares * net.per) * (a + net.shares * net.per) ≤ greatest_drift net E D
-one_more net ok burst three cert c E D slack a near =
+one_more_threshold : (net : Network) → IsNetwork net → HasBurst net → 3 ≤ length net.movements → (cert : Cert) → Certifies net cert → (E D : ℕ) → IsSlack cert E D → (a : ℕ) → a * a ≤ closer_drift net E D →
+    (a + net.shares * net.per) * (a + net.shares * net.per) ≤ threshold_drift net E D
+one_more_threshold net ok burst three cert c E D slack a near =
     let r = net.shares * net.per in
     let ks = movement_numbers net in
     let z = sum_by (credit_term net) ks in
@@ -164,3 +164,7 @@ one_more net ok burst three cert c E D slack a near =
     (record { some = r1; denominator = D_some; slack = gentle; burst = omega (arith, apart, some); parts = parts.0; left = parts.1; constant = constant_gentle net ok three })
     apart some squares left cases)
     (cases_lt D E)
+
+pub one_more : (net : Network) → IsNetwork net → HasBurst net → 3 ≤ length net.movements → (cert : Cert) → Certifies net cert → (E D : ℕ) → IsSlack cert E D → (a : ℕ) → a * a ≤ closer_drift net E D →
+    (a + net.shares * net.per) * (a + net.shares * net.per) ≤ greatest_drift net E D
+one_more net ok burst three cert c E D slack a near = omega (arith, one_more_threshold net ok burst three cert c E D slack a near)

@@ -17,6 +17,7 @@ use Rattle.mp_laws.proofs.Credits.{credits_above, credits_high}
 use Rattle.mp_laws.proofs.Distinct.{range_distinct, distinct_filter}
 use Rattle.mp_laws.proofs.Lists.{at_in, each_in, has_filter}
 use Rattle.mp_laws.proofs.Signed.{ring, mul_le}
+use Rattle.mp_laws.proofs.Serve.{nearly}
 use Rattle.mp_laws.proofs.Sums.{sum_by-le_at, sum_by-add, sum_by-mul, squares_le}
 use Rattle.mp_laws.proofs.Tied.{excess_is, slack_is, one_period_of}
 use Rattle.mp_controls.specs.Closer.{credit_part, burst_part, value_of, closer_drift}
@@ -123,4 +124,4 @@ closer_kept net ok cert c E D slack stages arrivals q phase level q' phase' leve
     let E_some = excess_some (nat_abs cert.e) D E (nat_abs cert.d) (slack_is net cert c E D slack) (excess_is cert.e c.excess).1 slack.lowest.denominator in
     closer_numbers D (2 * (net.shares * net.per * (net.shares * net.per)) * E) (net.shares * net.per) (sum_by (credit_part net) (movement_numbers net)) (burst_part net) (drift_value net q phase level) (drift_value net q' phase' level') (drift_constant net) (sum_by q (movement_numbers net)) (queue_threshold net E D)
     slack.lowest.denominator (omega (arith, mul-le-mul (mul-le-mul w w) E_some))
-    (one_period_of net ok cert c E D slack stages arrivals q phase level q' phase' level' greatest period) refl (value_most net ok q phase level within) top
+    (one_period_of net ok cert c E D slack stages arrivals q phase level q' phase' level' (nearly net q net.junctions stages greatest) period) refl (value_most net ok q phase level within) top

@@ -11,7 +11,7 @@ use Rattle.mp_model.specs.Slack.{IsSlack, IsGreatestSlack}
 use Rattle.mp_model.specs.Arrivals.{IsPermitted}
 use Rattle.mp_laws.proofs.Cases.{le}
 use Rattle.mp_laws.proofs.Windows.{keeps_to}
-use Rattle.mp_controls.specs.Lane.{lane, still_lane, still_cert, slow_lane, slow_cert, empty_network}
+use Rattle.mp_controls.specs.Lane.{lane, still_lane, still_cert, slow_lane, slow_cert, started_lane, empty_network}
 
 pub lane_network : (per rate : ℕ) → 1 ≤ per → IsNetwork (lane per rate)
 unfolding IsDistinct
@@ -62,6 +62,8 @@ slow_acceptable = record {
     bursts = (lit≤ tt, tt);
     rates = (lit≤ tt, tt);
     flows = (lit≤ tt, tt);
+    starts = (lit≤ tt, tt);
+    delay = lit≤ tt;
     stages = (lit≤ tt, tt);
     own = (lit≤ tt, tt);
     some_fed = lit≤ tt;
@@ -121,3 +123,35 @@ empty_certified = record {
 
 pub slow_permitted : IsPermitted slow_lane []
 slow_permitted = record { counts = tt; windows = (keeps_to 2 0 1 [] tt, tt) }
+
+pub started_network : IsNetwork started_lane
+unfolding IsDistinct
+started_network = record {
+  shares = lit≤ tt;
+  per = lit≤ tt;
+  share = (lit≤ tt, tt);
+  flow = (lit≤ tt, tt);
+  some_stage = (lit≤ tt, tt);
+  split = (refl, tt);
+  from = (refl, tt);
+  to = (tt, tt);
+  placed = (refl, tt);
+  stages = ((((tt, tt), (refl, tt)), tt), tt);
+  together = (((refl, tt), tt), tt);
+  way_out = ((1 ∷ [], (refl, tt)), tt);
+}
+
+pub started_certified : Certifies started_lane still_cert
+started_certified = record {
+  rules = record {
+    lengths = record { rates = refl; mixes = refl; parts = (refl, tt) };
+    denominator = le 1 1 (lit≤ tt);
+    rates = (le 0 1 (lit≤ tt), tt);
+    wholes = (le 1 1 (lit≤ tt), tt);
+    parts = ((le 0 1 (lit≤ tt), tt), tt);
+    masses = (le 1 1 (lit≤ tt), tt);
+    serves = (le 1 1 (lit≤ tt), tt);
+    balances = (le 1 1 (lit≤ tt), tt);
+  };
+  excess = le 1 1 (lit≤ tt);
+}

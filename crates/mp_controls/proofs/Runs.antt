@@ -5,7 +5,7 @@ use Rattle.mp_model.specs.Arrivals.{HasCounts, arrivals_of, next_level, StaysWit
 use Rattle.mp_model.specs.Bounds.{AreBounds, IsRoot, credit_term, step_term, drift_constant, greatest_drift, queue_bound}
 use Rattle.mp_model.specs.Certificate.{Cert, Certifies}
 use Rattle.mp_model.specs.DriftValue.{corrected_queue, drift_value}
-use Rattle.mp_model.specs.Network.{Network, movement_numbers, link_numbers, link_at, flow_of, has, entry}
+use Rattle.mp_model.specs.Network.{Network, movement_numbers, link_numbers, link_at, flow_of, start_of, has, entry}
 use Rattle.mp_model.specs.NetworkRules.{IsNetwork}
 use Rattle.mp_model.specs.Run.{opening, advance, run, run_from, state_after, greatest_stages}
 use Rattle.mp_model.specs.Slack.{IsSlack}
@@ -17,7 +17,7 @@ use Rattle.mp_laws.proofs.Keeps.{few_queued}
 use Rattle.mp_laws.proofs.Lists.{AllOf-map, all_of, at_in, each_in, numbered}
 use Rattle.mp_laws.proofs.Permitted.{stays}
 use Rattle.mp_laws.proofs.Sums.{sum_by-le_at, sum_by-same_at, sum_by-zero, terms_le}
-use Rattle.mp_controls.specs.Lower.{AreLowerBounds}
+use Rattle.mp_controls.specs.Lower.{StartsEmpty, AreLowerBounds}
 use Rattle.mp_controls.specs.OneLower.{HasBurst}
 use Rattle.mp_controls.proofs.Burst.{one_more}
 use Rattle.std.proofs.lemmas.Bool.{cases_lt}
@@ -43,8 +43,8 @@ constant_some net ok some =
     omega (arith, each, some_ones (length net.movements) some)
 
 -- at the opening nothing is queued, and the levels are 0
-none_at_opening : (net : Network) → sum_by (queue (opening net)) (movement_numbers net) ≡ 0
-none_at_opening net = sum_by-same_at (queue (opening net)) (λ k. 0) (movement_numbers net) (each_in _ (movement_numbers net) (λ k i. numbered (λ k. 0) (length net.movements) k i)) ∙ sum_by-zero (movement_numbers net)
+none_at_opening : (net : Network) → StartsEmpty net → sum_by (queue (opening net)) (movement_numbers net) ≡ 0
+none_at_opening net empty = sum_by-same_at (queue (opening net)) (λ k. 0) (movement_numbers net) (each_in _ (movement_numbers net) (λ k i. numbered (start_of net) (length net.movements) k i ∙ at_in (λ k. start_of net k ≡ 0) k (movement_numbers net) i empty)) ∙ sum_by-zero (movement_numbers net)
 
 levels_at_opening : (net : Network) → IsWithin net (λ l. 0)
 levels_at_opening net = all_of (λ l. 0 ≤ net.per * (link_at net l).burst) (λ l. zero-le) (link_numbers net)
@@ -89,26 +89,26 @@ bounded_by net ok top root is bounds are state level within below = each_in _ (m
     let at = bound_queue net.shares net.per (queue state k) (credit_term net k) x top root (mul-le-mul ok.shares ok.per) (le_trans (term_most net (queue state) (phase_of net state) level k here) below) is.most (near_queue net ok (queue state) (phase_of net state) level within k here).1 in
     omega arith)
 
-pub lower_bound : (net : Network) → IsNetwork net → 1 ≤ length net.movements → (cert : Cert) → Certifies net cert → (E D : ℕ) → IsSlack cert E D → (bounds : List ℕ) → AreLowerBounds net E D bounds → RunStays net bounds 0
-lower_bound net ok some cert c E D slack bounds are A permitted =
-    let few = few_queued net ok E D (queue (opening net)) (phase_of net (opening net)) (λ l. 0) (levels_at_opening net) (let none = none_at_opening net in omega arith) in
+pub lower_bound : (net : Network) → IsNetwork net → StartsEmpty net → 1 ≤ length net.movements → (cert : Cert) → Certifies net cert → (E D : ℕ) → IsSlack cert E D → (bounds : List ℕ) → AreLowerBounds net E D bounds → RunStays net bounds 0
+lower_bound net ok empty some cert c E D slack bounds are A permitted =
+    let few = few_queued net ok E D (queue (opening net)) (phase_of net (opening net)) (λ l. 0) (levels_at_opening net) (let none = none_at_opening net empty in omega arith) in
     let constant = constant_some net ok some in
     run_holds net ok (greatest_drift net E D - 1)
     (λ stages arrivals q phase level q' phase' level' greatest period within top. let b = below net ok some cert c E D slack stages arrivals q phase level q' phase' level' greatest period within (omega arith) in omega arith)
     (λ state. AllByRecursion (λ k. queue state k + 0 ≤ entry bounds k) (movement_numbers net)) (bounded_by net ok (greatest_drift net E D - 1) are.root are.is_root bounds are.are)
     A (opening net) (λ l. 0) (levels_at_opening net) (omega (arith, few, constant)) (stays net A permitted)
 
-opening_closer : (net : Network) → IsNetwork net → (E D : ℕ) → drift_value net (queue (opening net)) (phase_of net (opening net)) (λ l. 0) ≤ closer_drift net E D
-opening_closer net ok E D =
+opening_closer : (net : Network) → IsNetwork net → StartsEmpty net → (E D : ℕ) → drift_value net (queue (opening net)) (phase_of net (opening net)) (λ l. 0) ≤ closer_drift net E D
+opening_closer net ok empty E D =
     let value = value_most net ok (queue (opening net)) (phase_of net (opening net)) (λ l. 0) (levels_at_opening net) in
-    let start : drift_value net (queue (opening net)) (phase_of net (opening net)) (λ l. 0) ≤ value_of net 0 = subst (λ s. drift_value net (queue (opening net)) (phase_of net (opening net)) (λ l. 0) ≤ value_of net s) (none_at_opening net) value in
+    let start : drift_value net (queue (opening net)) (phase_of net (opening net)) (λ l. 0) ≤ value_of net 0 = subst (λ s. drift_value net (queue (opening net)) (phase_of net (opening net)) (λ l. 0) ≤ value_of net s) (none_at_opening net empty) value in
     omega (arith, start)
 
-pub closer_bound : (net : Network) → IsNetwork net → (cert : Cert) → Certifies net cert → (E D : ℕ) → IsSlack cert E D → (bounds : List ℕ) → AreCloserBounds net E D bounds → RunStays net bounds 0
-closer_bound net ok cert c E D slack bounds are A permitted =
+pub closer_bound : (net : Network) → IsNetwork net → StartsEmpty net → (cert : Cert) → Certifies net cert → (E D : ℕ) → IsSlack cert E D → (bounds : List ℕ) → AreCloserBounds net E D bounds → RunStays net bounds 0
+closer_bound net ok empty cert c E D slack bounds are A permitted =
     run_holds net ok (closer_drift net E D) (closer_kept net ok cert c E D slack)
     (λ state. AllByRecursion (λ k. queue state k + 0 ≤ entry bounds k) (movement_numbers net)) (bounded_by net ok (closer_drift net E D) are.root are.is_root bounds are.are)
-    A (opening net) (λ l. 0) (levels_at_opening net) (opening_closer net ok E D) (stays net A permitted)
+    A (opening net) (λ l. 0) (levels_at_opening net) (opening_closer net ok empty E D) (stays net A permitted)
 
 root_most : (a root v : ℕ) → a * a ≤ v → v < (root + 1) * (root + 1) → a ≤ root
 root_most a root v h most = ⊎_elim (λ (x : root < a). let n : root + 1 ≤ a = omega arith in absurd (omega (arith, mul-le-mul n n))) (λ (x : a ≤ root). x) (cases_lt root a)
@@ -117,8 +117,8 @@ one_lower_numbers : (r q x K root : ℕ) → 1 ≤ r → x + r ≤ root → r * 
 one_lower_numbers r q x K root some h near = (le-div_iff_mul-le some).1 (omega arith)
 
 -- where a vehicle more would keep within the greatest drift value, each queue is below its bound
-pub one_lower : (net : Network) → IsNetwork net → HasBurst net → 3 ≤ length net.movements → (cert : Cert) → Certifies net cert → (E D : ℕ) → IsSlack cert E D → (bounds : List ℕ) → AreBounds net E D bounds → RunStays net bounds 1
-one_lower net ok burst three cert c E D slack bounds are A permitted =
+pub one_lower : (net : Network) → IsNetwork net → StartsEmpty net → HasBurst net → 3 ≤ length net.movements → (cert : Cert) → Certifies net cert → (E D : ℕ) → IsSlack cert E D → (bounds : List ℕ) → AreBounds net E D bounds → RunStays net bounds 1
+one_lower net ok empty burst three cert c E D slack bounds are A permitted =
     run_holds net ok (closer_drift net E D) (closer_kept net ok cert c E D slack)
     (λ state. AllByRecursion (λ k. queue state k + 1 ≤ entry bounds k) (movement_numbers net))
     (λ state level within below. each_in _ (movement_numbers net) (λ k here.
@@ -128,19 +128,19 @@ one_lower net ok burst three cert c E D slack bounds are A permitted =
     let root = root_most (x + net.shares * net.per) are.root (greatest_drift net E D) more are.is_root.most in
     let at = one_lower_numbers (net.shares * net.per) (queue state k) x (credit_term net k) are.root (mul-le-mul ok.shares ok.per) root (near_queue net ok (queue state) (phase_of net state) level within k here).1 in
     omega arith))
-    A (opening net) (λ l. 0) (levels_at_opening net) (opening_closer net ok E D) (stays net A permitted)
+    A (opening net) (λ l. 0) (levels_at_opening net) (opening_closer net ok empty E D) (stays net A permitted)
 
 last_of_run : (net : Network) (Holds : State → Type 0) (A : List (List ℕ)) (state : State) → AllByRecursion Holds (run_from net state A) → Holds (state_after net state A)
 last_of_run net Holds [] state h = h.0
 last_of_run net Holds (counts ∷ A) state h = last_of_run net Holds A (advance net counts state) h.1
 
 -- and so each queue of the core
-pub core_one_lower : (net : Network) → IsNetwork net → HasBurst net → 3 ≤ length net.movements → (cert : Cert) → Certifies net cert → (E D : ℕ) → IsSlack cert E D → (bounds : List ℕ) → AreBounds net E D bounds → (es : List Event) → AllByRecursion (HasCounts net) (closed_of net (core_opening net) es) →
+pub core_one_lower : (net : Network) → IsNetwork net → StartsEmpty net → HasBurst net → 3 ≤ length net.movements → (cert : Cert) → Certifies net cert → (E D : ℕ) → IsSlack cert E D → (bounds : List ℕ) → AreBounds net E D bounds → (es : List Event) → AllByRecursion (HasCounts net) (closed_of net (core_opening net) es) →
     AllByRecursion (λ k. entry (core_after net (core_opening net) es).queues k + 1 ≤ entry bounds k) (movement_numbers net)
-core_one_lower net ok burst three cert c E D slack bounds are es counts =
+core_one_lower net ok empty burst three cert c E D slack bounds are es counts =
     subst (λ Q. AllByRecursion (λ k. entry Q k + 1 ≤ entry bounds k) (movement_numbers net)) (sym (order net ok es).queues)
     (last_of_run net (λ state. AllByRecursion (λ k. queue state k + 1 ≤ entry bounds k) (movement_numbers net)) (closed_of net (core_opening net) es) (opening net)
-    (one_lower net ok burst three cert c E D slack bounds are (closed_of net (core_opening net) es) (record { counts = counts; windows = windows_kept net es })))
+    (one_lower net ok empty burst three cert c E D slack bounds are (closed_of net (core_opening net) es) (record { counts = counts; windows = windows_kept net es })))
 
 -- a run that stays at most some numbers stays lower than greater ones
 pub lower_than : (net : Network) (bounds above : List ℕ) (less : ℕ) → AllByRecursion (λ k. entry bounds k + less ≤ entry above k) (movement_numbers net) → RunStays net bounds 0 → RunStays net above less

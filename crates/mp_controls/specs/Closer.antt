@@ -13,6 +13,7 @@ use Rattle.mp_model.specs.Slack.{IsSlack}
 use Rattle.mp_model.specs.Step.{queue}
 use Rattle.mp_model.specs.Worked.{two_approaches, tandem, roundabout}
 use Rattle.mp_laws.specs.Periods.{IsPeriod, IsWithin}
+use Rattle.mp_controls.specs.Lower.{StartsEmpty}
 
 -- The credit part of movement k is the rate length times the greatest credit: its credit-and-burst term without the burst.
 abbrev pub credit_part : Network → ℕ → ℕ
@@ -52,9 +53,9 @@ pub record AreCloserBounds (net : Network) (E D : ℕ) (bounds : List ℕ) : Typ
 abbrev pub RunStays : Network → List ℕ → ℕ → Type 0
 RunStays net bounds less = (A : List (List ℕ)) → IsPermitted net A → AllByRecursion (λ state. AllByRecursion (λ k. queue state k + less ≤ entry bounds k) (movement_numbers net)) (run net A)
 
--- Over permitted arrivals of any length each queue of each state of the run is below its closer bound by so much or more.
+-- With nothing queued at the start, over permitted arrivals of any length each queue of each state of the run is below its closer bound by so much or more.
 abbrev pub StaysCloser : ℕ → Type 0
-StaysCloser less = (net : Network) → IsNetwork net → (cert : Cert) → Certifies net cert → (E D : ℕ) → IsSlack cert E D → (bounds : List ℕ) → AreCloserBounds net E D bounds → RunStays net bounds less
+StaysCloser less = (net : Network) → IsNetwork net → StartsEmpty net → (cert : Cert) → Certifies net cert → (E D : ℕ) → IsSlack cert E D → (bounds : List ℕ) → AreCloserBounds net E D bounds → RunStays net bounds less
 
 -- Each queue is at most its closer bound.
 abbrev pub CloserBoundLaw : Type 0

@@ -9,6 +9,7 @@ use Rattle.mp_model.specs.Network.{Network, movement_numbers, link_numbers, link
 use Rattle.mp_model.specs.NetworkRules.{IsNetwork}
 use Rattle.mp_model.specs.Slack.{IsSlack}
 use Rattle.mp_laws.specs.Cases.{IsWorked}
+use Rattle.mp_controls.specs.Lower.{StartsEmpty}
 use Rattle.mp_controls.specs.Closer.{RunStays}
 use Rattle.mp_controls.specs.Lane.{three_approaches, three_approaches_cert}
 
@@ -16,9 +17,9 @@ use Rattle.mp_controls.specs.Lane.{three_approaches, three_approaches_cert}
 abbrev pub HasBurst : Network → Type 0
 HasBurst net = (l : ℕ) × (has (link_numbers net) l ≡ true) × (1 ≤ (link_at net l).burst)
 
--- In a network with a burst and at least three movements, over permitted arrivals of any length, each queue of each state of the run is below its bound by so much or more.
+-- In a network with a burst, at least three movements and nothing queued at the start, over permitted arrivals of any length, each queue of each state of the run is below its bound by so much or more.
 abbrev pub BurstStaysLower : ℕ → Type 0
-BurstStaysLower less = (net : Network) → IsNetwork net → HasBurst net → 3 ≤ length net.movements → (cert : Cert) → Certifies net cert → (E D : ℕ) → IsSlack cert E D → (bounds : List ℕ) → AreBounds net E D bounds → RunStays net bounds less
+BurstStaysLower less = (net : Network) → IsNetwork net → StartsEmpty net → HasBurst net → 3 ≤ length net.movements → (cert : Cert) → Certifies net cert → (E D : ℕ) → IsSlack cert E D → (bounds : List ℕ) → AreBounds net E D bounds → RunStays net bounds less
 
 -- In such a network each queue is at least 1 below its bound.
 abbrev pub OneLowerLaw : Type 0
@@ -30,7 +31,7 @@ NotFourLower = ¬ BurstStaysLower 4
 
 -- In such a network, after any events that closed lists of one count per fed link, each queue of the core is at least 1 below its bound.
 abbrev pub CoreOneLowerLaw : Type 0
-CoreOneLowerLaw = (net : Network) → IsNetwork net → HasBurst net → 3 ≤ length net.movements → (cert : Cert) → Certifies net cert → (E D : ℕ) → IsSlack cert E D → (bounds : List ℕ) → AreBounds net E D bounds → (es : List Event) → AllByRecursion (HasCounts net) (closed_of net (core_opening net) es) →
+CoreOneLowerLaw = (net : Network) → IsNetwork net → StartsEmpty net → HasBurst net → 3 ≤ length net.movements → (cert : Cert) → Certifies net cert → (E D : ℕ) → IsSlack cert E D → (bounds : List ℕ) → AreBounds net E D bounds → (es : List Event) → AllByRecursion (HasCounts net) (closed_of net (core_opening net) es) →
     AllByRecursion (λ k. entry (core_after net (core_opening net) es).queues k + 1 ≤ entry bounds k) (movement_numbers net)
 
 -- Three approaches meet the premises of both: they have a certificate of slack 5/12, bounds of 40, a burst and three movements.

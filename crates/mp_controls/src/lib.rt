@@ -4,7 +4,7 @@
 
 ghost use Rattle.mp_controls.specs.Drift.{DriftBelowLaw, NotOfNoMovement, NotTwoBelow};
 ghost use Rattle.mp_controls.specs.Bounds.{NotBoundTwoLower, NotCoreBoundTwoLower, NotBoundsOfNextSlack};
-ghost use Rattle.mp_controls.specs.Lower.{LowerBoundLaw, NotOneLower};
+ghost use Rattle.mp_controls.specs.Lower.{LowerBoundLaw, NotOneLower, NotLowerWithStarts};
 ghost use Rattle.mp_controls.specs.Closer.{CloserDriftLaw, CloserBoundLaw, NotCloserTwoLower, WorkedStayLower};
 ghost use Rattle.mp_controls.specs.OneLower.{OneLowerLaw, NotFourLower, CoreOneLowerLaw, ThreeApproachesCase};
 ghost use Rattle.mp_controls.specs.Splits.{NotLinkSplitOneMore};
@@ -26,7 +26,8 @@ pub fn drift_two_lower_control()
     ensures { NotTwoBelow }
 {}
 
-/// No queue of a run exceeds what its bound would be if the greatest drift value were one lower.
+/// Where nothing is queued at the start, no queue of a run exceeds what its bound would be if the greatest
+/// drift value were one lower.
 pub fn lower_bound_law()
     ensures { LowerBoundLaw }
 {}
@@ -34,6 +35,11 @@ pub fn lower_bound_law()
 /// Not every queue of a run is at most that bound less 1.
 pub fn lower_bound_control()
     ensures { NotOneLower }
+{}
+
+/// With queues at the start the bound cannot be taken one lower.
+pub fn lower_bound_with_starts_control()
+    ensures { NotLowerWithStarts }
 {}
 
 /// A period keeps the drift value at most the closer drift value too.

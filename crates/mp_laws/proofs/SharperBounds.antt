@@ -63,8 +63,9 @@ abbrev lane : ℕ → ℕ → Network
 lane flow burst = record {
   shares = 1;
   per = 1;
+  delay = 0;
   links = record { name = []; burst = burst; rate = 0 } ∷ [];
-  movements = record { name = []; from = 1; to = None; share = 1; flow = flow } ∷ [];
+  movements = record { name = []; from = 1; to = None; share = 1; flow = flow; start = 0 } ∷ [];
   junctions = record { name = []; stages = (1 ∷ []) ∷ [] } ∷ [];
 }
 

@@ -31,6 +31,8 @@ not_refused net h =
         few_shares = few_shares net there n.split;
         flow = n.flow;
         flows = r.flows;
+        starts = r.starts;
+        delay = r.delay;
         some_stage = n.some_stage;
         stages = r.stages;
       };

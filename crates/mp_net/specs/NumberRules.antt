@@ -10,18 +10,18 @@ use Rattle.mp_net.specs.declared.fault.Spot.{Spot}
 abbrev pub outside : ℕ → ℕ → ℕ → Bool
 outside low high n = nat_lt n low || nat_lt high n
 
--- The share total, the rate length, or how many links, movements or junctions there are is out of range.
+-- The share total, the rate length, the delay, or how many links, movements or junctions there are is out of range.
 abbrev pub top_has_bad_number : Network → Bool
 top_has_bad_number net =
-    outside 1 1000 net.shares || outside 1 3600 net.per || outside 1 128 (length net.links) || outside 1 512 (length net.movements) || outside 1 64 (length net.junctions)
+    outside 1 1000 net.shares || outside 1 3600 net.per || outside 0 60 net.delay || outside 1 128 (length net.links) || outside 1 512 (length net.movements) || outside 1 64 (length net.junctions)
 
 -- The burst or the rate of a link is out of range.
 abbrev pub link_has_bad_number : Network → ℕ → Bool
 link_has_bad_number net l = outside 0 10000 (link_at net l).burst || outside 0 (1000 * net.per) (link_at net l).rate
 
--- The share or the flow of a movement is out of range.
+-- The share, the flow or the start queue of a movement is out of range.
 abbrev pub movement_has_bad_number : Network → ℕ → Bool
-movement_has_bad_number net k = outside 1 net.shares (movement_at net k).share || outside 1 1000 (movement_at net k).flow
+movement_has_bad_number net k = outside 1 net.shares (movement_at net k).share || outside 1 1000 (movement_at net k).flow || outside 0 1000000 (movement_at net k).start
 
 -- A junction has no stage, or too many.
 abbrev pub junction_has_bad_number : Network → ℕ → Bool

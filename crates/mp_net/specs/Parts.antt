@@ -12,7 +12,7 @@ link_of part = record { name = part.name; burst = part.burst; rate = part.rate }
 
 -- This is the movement of a part.
 abbrev pub movement_of : MovementPart → Movement
-movement_of part = record { name = part.name; from = part.from; to = part.to; share = part.share; flow = part.flow }
+movement_of part = record { name = part.name; from = part.from; to = part.to; share = part.share; flow = part.flow; start = part.start }
 
 -- This is the junction of a part.
 abbrev pub junction_of : JunctionPart → Junction
@@ -23,6 +23,7 @@ abbrev pub network_of : NetParts → Network
 network_of parts = record {
   shares = parts.shares;
   per = parts.per;
+  delay = parts.delay;
   links = map link_of parts.links.items;
   movements = map movement_of parts.movements.items;
   junctions = map junction_of parts.junctions.items;

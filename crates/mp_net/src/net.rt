@@ -68,6 +68,13 @@ impl Net {
         self.parts.per
     }
 
+    /// The greatest age, in periods, of a report that a junction decides by.
+    pub fn delay(&self) -> u32
+        ensures { result ≡ self.now.delay }
+    {
+        self.parts.delay
+    }
+
     /// How many links there are.
     pub fn links(&self) -> u16
         ensures count { result ≡ length self.now.links }

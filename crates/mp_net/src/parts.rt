@@ -92,7 +92,8 @@ pub struct LinkPart {
 
 /// A movement from a link to a link, or to the outside where `to` is `None`.
 /// The number 0 stands for a link that was not found.
-/// Its share is in parts of the network's share total, its flow in vehicles per period.
+/// Its share is in parts of the network's share total, its flow in vehicles per period, and `start` is how
+/// many vehicles queue on it when a run starts.
 #[derive(Drop)]
 pub struct MovementPart {
     pub name: Name,
@@ -100,6 +101,7 @@ pub struct MovementPart {
     pub to: Option<LinkNo>,
     pub share: u32,
     pub flow: u32,
+    pub start: u32,
 }
 
 /// A junction: its stages are lists of movements.
@@ -110,11 +112,13 @@ pub struct JunctionPart {
     pub stages: Vec<Vec<MovementNo>>,
 }
 
-/// The parts of a network: the share total, the rate length in periods, and the links, movements and junctions in their order.
+/// The parts of a network: the share total, the rate length in periods, the greatest age in periods of a
+/// report that a junction decides by, and the links, movements and junctions in their order.
 #[derive(Drop)]
 pub struct NetParts {
     pub shares: u32,
     pub per: u32,
+    pub delay: u32,
     pub links: Vec<LinkPart>,
     pub movements: Vec<MovementPart>,
     pub junctions: Vec<JunctionPart>,

@@ -49,6 +49,7 @@ fn movement(
         to,
         share,
         flow: 3,
+        start: 0,
     })
 }
 
@@ -79,6 +80,7 @@ fn fork(alloc: Global) -> Result<NetParts, Fail> {
     Ok(NetParts {
         shares: 2,
         per: 10,
+        delay: 0,
         links,
         movements,
         junctions,

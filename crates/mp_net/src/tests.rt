@@ -35,6 +35,7 @@ fn movements(
             to: *to,
             share: *share,
             flow: *flow,
+            start: 0,
         })?;
     }
     Ok(movements)
@@ -60,6 +61,7 @@ fn two_approaches(alloc: Global) -> Result<NetParts, Fail> {
     Ok(NetParts {
         shares: 1,
         per: 4,
+        delay: 0,
         links: links(alloc, &[("a", 2, 1), ("b", 2, 1)])?,
         movements: movements(alloc, &[(1, None, 1, 2), (2, None, 1, 2)])?,
         junctions: junctions(alloc, &[&[&[1], &[2]]])?,
@@ -70,6 +72,7 @@ fn tandem(alloc: Global, per: u32, burst: u32) -> Result<NetParts, Fail> {
     Ok(NetParts {
         shares: 1,
         per,
+        delay: 0,
         links: links(alloc, &[("x", 1, 1), ("y", burst, 0)])?,
         movements: movements(alloc, &[(1, Some(2), 1, 1), (2, None, 1, 1)])?,
         junctions: junctions(alloc, &[&[&[1]], &[&[2]]])?,
@@ -80,6 +83,7 @@ fn roundabout(alloc: Global) -> Result<NetParts, Fail> {
     Ok(NetParts {
         shares: 2,
         per: 4,
+        delay: 0,
         links: links(alloc, &[("x", 1, 1)])?,
         movements: movements(alloc, &[(1, Some(1), 1, 2), (1, None, 1, 2)])?,
         junctions: junctions(alloc, &[&[&[1, 2]]])?,
@@ -90,6 +94,7 @@ fn corridor(alloc: Global) -> Result<NetParts, Fail> {
     Ok(NetParts {
         shares: 100,
         per: 40,
+        delay: 0,
         links: links(
             alloc,
             &[
@@ -283,6 +288,7 @@ fn largest(alloc: Global) -> Result<NetParts, Fail> {
     Ok(NetParts {
         shares: 1000,
         per: 3600,
+        delay: 0,
         links,
         movements: self::movements(alloc, &movements)?,
         junctions,

@@ -5,8 +5,8 @@ use Rattle.std.proofs.Math.Nat.{mod-add-mod, zero-mod}
 use Rattle.std.proofs.lemmas.List.{length-map, length-replicate}
 use Rattle.std.proofs.lemmas.List.FromFn.{length-range_with_len}
 use Rattle.std.proofs.lemmas.List.Sums.{sum-map, sum_by-cons}
-use Rattle.mp_model.specs.Network.{Network, movement_numbers, link_numbers, link_at, numbers_to, from_of, entry}
-use Rattle.mp_model.specs.NetworkRules.{IsNetwork}
+use Rattle.mp_model.specs.Network.{Network, movement_numbers, link_numbers, link_at, numbers_to, from_of, start_of, entry}
+use Rattle.mp_model.specs.NetworkRules.{IsNetwork, IsInRange}
 use Rattle.mp_model.specs.Arrivals.{arrivals_of}
 use Rattle.mp_model.specs.Step.{State, queue, received_by, passed, got, new_queue, departing, step}
 use Rattle.mp_model.specs.Run.{opening}
@@ -19,6 +19,7 @@ use Rattle.mp_press.proofs.Writes.{numbers_by_all}
 use Rattle.mp_feed.specs.Fill.{Fill}
 use Rattle.mp_step.proofs.Stages.{get_or-replicate}
 use Rattle.mp_step.proofs.Above.{then_within}
+use Rattle.mp_step.proofs.Entering.{enter_few}
 use Rattle.mp_step.specs.BucketLevels.{level_then, first_above, buckets_of}
 use Rattle.mp_step.specs.Standing.{Standing, splits_of, IsOn, Stands, as_state, closed}
 
@@ -59,8 +60,8 @@ below n w h = omega arith
 queues_after : (net : Network) (st : Standing) (stages counts : List ℕ) → length (closed net st stages counts).queues ≡ length net.movements
 queues_after net st stages counts = length-map (movement_numbers net) _ ∙ length-range_with_len 1 (length net.movements)
 
-pub on_after : (net : Network) → IsNetwork net → (st : Standing) (stages counts : List ℕ) → IsOn net st → first_above net (entry st.levels) counts ≡ None → IsOn net (closed net st stages counts)
-on_after net ok st stages counts on none =
+pub on_after : (net : Network) → IsNetwork net → IsInRange net → (st : Standing) (stages counts : List ℕ) → IsOn net st → first_above net (entry st.levels) counts ≡ None → IsOn net (closed net st stages counts)
+on_after net ok range st stages counts on none =
     let r : ℕ → ℕ = λ l. entry st.phases l + got net stages (entry st.queues) (arrivals_of net counts) l in
     record {
       queues = queues_after net st stages counts;
@@ -73,6 +74,7 @@ on_after net ok st stages counts on none =
       within = each_in (λ l. entry (closed net st stages counts).levels l ≤ net.per * (link_at net l).burst) (link_numbers net) (λ l h.
           subst (λ n. n ≤ net.per * (link_at net l).burst) (sym (numbered (level_then net (entry st.levels) counts) (length net.links) l h))
           (at_in (λ l. level_then net (entry st.levels) counts l ≤ net.per * (link_at net l).burst) l (link_numbers net) h (then_within net (entry st.levels) counts on.within none)));
+      few = omega (arith, on.few, enter_few net ok range (entry st.levels) counts on.within none);
       splits = on.splits;
       buckets = on.buckets;
     }
@@ -97,29 +99,31 @@ zeros : (z a n : ℕ) → replicate n z ≡ map (λ k. z) (range_with_len a n)
 zeros z a zero = refl
 zeros z a (suc n) = ap (λ xs. z ∷ xs) (zeros z (a + 1) n)
 
-no_queues : (n : ℕ) → let z : ℕ = 0 in naturals (replicate n (pos z)) ≡ replicate n z
-no_queues zero = refl
-no_queues (suc n) = ap (λ xs. 0 ∷ xs) (no_queues n)
+pub start_naturals : (f : ℕ → ℕ) (ks : List ℕ) → naturals (map (λ k. pos (f k)) ks) ≡ map f ks
+start_naturals f [] = refl
+start_naturals f (k ∷ ks) = ap (λ xs. f k ∷ xs) (start_naturals f ks)
 
-pub opening_queues : (n : ℕ) → naturals (replicate n (pos 0)) ≡ map (λ k. 0) (numbers_to n)
-opening_queues n = no_queues n ∙ zeros 0 1 n
+pub start_positive : (f : ℕ → ℕ) (ks : List ℕ) → NoneNegative (map (λ k. pos (f k)) ks)
+start_positive f [] = refl
+start_positive f (k ∷ ks) = ap (λ xs. pos (f k) ∷ xs) (start_positive f ks)
 
--- a run opens where nothing is queued and nothing was received
-abbrev pub opened : List ℕ → List ℕ → List ℕ → List (List ℕ) → List Fill → Standing
-opened qs ps ls splits buckets = record { queues = qs; phases = ps; levels = ls; period = 0; total_in = 0; total_out = 0; splits = splits; buckets = buckets }
+-- a run opens with its start queues, where nothing was received
+abbrev pub opened : List ℕ → List ℕ → List ℕ → ℕ → List (List ℕ) → List Fill → Standing
+opened qs ps ls entered splits buckets = record { queues = qs; phases = ps; levels = ls; period = 0; total_in = entered; total_out = 0; splits = splits; buckets = buckets }
 
 pub no_entries : (xs : List ℕ) (n : ℕ) → xs ≡ replicate n 0 → (l : ℕ) → entry xs l ≡ 0
 no_entries xs n e l = ap (λ xs. entry xs l) e ∙ get_or-replicate n (l - 1)
 
-pub opens : (net : Network) → IsNetwork net → (qs ps ls : List ℕ) (splits : List (List ℕ)) (buckets : List Fill) → qs ≡ map (λ k. 0) (movement_numbers net) → ps ≡ replicate (length net.links) 0 → ls ≡ replicate (length net.links) 0 →
-    splits ≡ splits_of net → buckets ≡ buckets_of net → IsOn net (opened qs ps ls splits buckets) × Stands net (opened qs ps ls splits buckets) (opening net)
-opens net ok qs ps ls splits buckets q p v s b = (
+pub opens : (net : Network) → IsNetwork net → (qs ps ls : List ℕ) (entered : ℕ) (splits : List (List ℕ)) (buckets : List Fill) → qs ≡ map (start_of net) (movement_numbers net) → entered ≡ sum_by (start_of net) (movement_numbers net) → ps ≡ replicate (length net.links) 0 → ls ≡ replicate (length net.links) 0 →
+    splits ≡ splits_of net → buckets ≡ buckets_of net → IsOn net (opened qs ps ls entered splits buckets) × Stands net (opened qs ps ls entered splits buckets) (opening net)
+opens net ok qs ps ls entered splits buckets q t p v s b = (
   record {
-    queues = ap length q ∙ length-map (movement_numbers net) (λ k. 0) ∙ length-range_with_len 1 (length net.movements);
+    queues = ap length q ∙ length-map (movement_numbers net) (start_of net) ∙ length-range_with_len 1 (length net.movements);
     phases = ap length p ∙ length-replicate {A = ℕ} (length net.links) 0;
     phase_in = each_in (λ l. entry ps l < net.shares) (link_numbers net) (λ l h. omega (arith, no_entries ps (length net.links) p l, ok.shares));
     levels = ap length v ∙ length-replicate {A = ℕ} (length net.links) 0;
     within = each_in (λ l. entry ls l ≤ net.per * (link_at net l).burst) (link_numbers net) (λ l h. omega (arith, no_entries ls (length net.links) v l));
+    few = omega (arith, t);
     splits = s;
     buckets = b;
   },
@@ -127,7 +131,7 @@ opens net ok qs ps ls splits buckets q p v s b = (
     queues = q;
     phases = each_in _ (link_numbers net) (λ l h. no_entries ps (length net.links) p l ∙ sym (ap (λ n. n % net.shares) (numbered (λ l. 0) (length net.links) l h) ∙ zero-mod net.shares));
     period = refl;
-    total_in = refl;
+    total_in = t;
     total_out = refl;
   },
 )
@@ -136,7 +140,3 @@ opens net ok qs ps ls splits buckets q p v s b = (
 pub zeros_positive : (n : ℕ) → NoneNegative (replicate n (pos 0))
 zeros_positive zero = refl
 zeros_positive (suc n) = ap (λ xs. pos 0 ∷ xs) (zeros_positive n)
-
-pub zeros_sum : (n : ℕ) → sum (naturals (replicate n (pos 0))) ≡ 0
-zeros_sum zero = refl
-zeros_sum (suc n) = omega (arith, sum_by-cons (λ x. x) 0 (naturals (replicate n (pos 0))), zeros_sum n)

@@ -1,7 +1,7 @@
 -- Where a run stands, and one period with given stages.
 use Rattle.std.specs.Prelude.{◌≡◌, ◌≤◌, ◌<◌, ℕ, ◌+◌, ◌*◌, ◌%◌, cond, min, nat_lt, List, length, map, sum_by}
 use Rattle.std.specs.List.{AllByRecursion}
-use Rattle.mp_model.specs.Network.{Network, link_numbers, link_at, share_of, flow_of, from_of, out_of, into_link, entry}
+use Rattle.mp_model.specs.Network.{Network, movement_numbers, link_numbers, link_at, start_of, share_of, flow_of, from_of, out_of, into_link, entry}
 use Rattle.mp_model.specs.Pressure.{positive_weight}
 use Rattle.mp_model.specs.Arrivals.{arrivals_of}
 use Rattle.mp_model.specs.Step.{State, received_by, step, new_queue}
@@ -27,13 +27,14 @@ shares_in net l = map (share_of net) (out_of net l)
 abbrev pub splits_of : Network → List (List ℕ)
 splits_of net = map (shares_in net) (link_numbers net)
 
--- The standing is one of this network, where no link is above its bucket.
+-- The standing is one of this network, where no link is above its bucket and at most 1,408,000 vehicles a period have entered beside those of the start.
 pub record IsOn (net : Network) (st : Standing) : Type 0 where
   pub queues : length st.queues ≡ length net.movements
   pub phases : length st.phases ≡ length net.links
   pub phase_in : AllByRecursion (λ l. entry st.phases l < net.shares) (link_numbers net)
   pub levels : length st.levels ≡ length net.links
   pub within : AllByRecursion (λ l. entry st.levels l ≤ net.per * (link_at net l).burst) (link_numbers net)
+  pub few : st.total_in ≤ sum_by (start_of net) (movement_numbers net) + st.period * 1408000
   pub splits : st.splits ≡ splits_of net
   pub buckets : st.buckets ≡ buckets_of net
 

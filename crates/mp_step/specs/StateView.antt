@@ -18,12 +18,12 @@ standing_of s = record {
   buckets = s.buckets.items;
 }
 
--- No queue is negative, what entered has departed or is queued, no level is above its bucket, and the buffers have their lengths.
+-- No queue is negative, what entered has departed or is queued and is at most a million a movement and 11,000 a link and period, no level is above its bucket, and the buffers have their lengths.
 pub record IsKept (s : Inside) : Type 0 where
   pub some : NoneNegative s.queues.items
   pub next_some : NoneNegative s.next_queues.items
   pub period : s.period ≤ 2 ^ 48
-  pub few : s.total_in ≤ s.period * 2 ^ 37
+  pub few : s.total_in ≤ 512 * 10 ^ 6 + s.period * 1408000
   pub conserved : s.total_in ≡ s.total_out + sum (naturals s.queues.items)
   pub within : AreWithin s.buckets.items s.levels.items
   pub next_queues : length s.next_queues.items ≡ length s.queues.items

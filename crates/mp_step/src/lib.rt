@@ -4,6 +4,7 @@
 mod levels;
 mod moving;
 mod passing;
+mod starts;
 mod state;
 
 pub use state::{AboveAt, State};

@@ -13,6 +13,7 @@ ghost use Rattle.mp_step.specs.Taken.{HasTaken};
 use crate::levels::{levels_after, make_buckets, room_at};
 use crate::moving::move_all;
 use crate::passing::{departed, serve_all};
+use crate::starts::{start_queues, started};
 use mp_feed::{Bucket, NoMemory, Splitter};
 use mp_net::{LinkNo, MovementNo, Net, StageNo};
 use mp_press::queue_of;
@@ -62,7 +63,8 @@ impl Model for State {
 }
 
 impl State {
-    /// The opening of a run: period 0, nothing queued, nothing received, and each bucket empty.
+    /// The opening of a run: period 0, the start queues, which count as entered, nothing received, and each
+    /// bucket empty.
     /// `NoMemory` comes only for want of memory.
     pub fn empty(alloc: Global, net: &Net) -> Result<State, NoMemory>
         ensures on { IfOk result (λ s. IsOn net.now s) }
@@ -74,13 +76,13 @@ impl State {
         let links = usize::from(net.links());
         Ok(State {
             period: 0,
-            queues: vec![in alloc; 0i128; movements]?,
+            queues: start_queues(alloc, net)?,
             next_queues: vec![in alloc; 0i128; movements]?,
             phases: vec![in alloc; 0u32; links]?,
             next_phases: vec![in alloc; 0u32; links]?,
             levels: vec![in alloc; 0u64; links]?,
             next_levels: vec![in alloc; 0u64; links]?,
-            total_in: 0,
+            total_in: started(net),
             total_out: 0,
             splits: make_splits(alloc, net)?,
             buckets: make_buckets(alloc, net)?,

@@ -5,5 +5,5 @@ use Rattle.mp_controls.proofs.Lanes.{slow_acceptable, slow_certified, slow_cert_
 
 pub returns : goal.returns
 returns c law =
-    let h : 2 ≤ 1 = (law slow_lane slow_acceptable.network slow_cert slow_certified 1 2 slow_cert_slack (1 ∷ []) (record { root = 2; is_root = record { within = lit≤ tt; most = lit< tt }; are = refl }) [] slow_permitted).0.0 in
+    let h : 2 ≤ 1 = (law slow_lane slow_acceptable.network (refl, tt) slow_cert slow_certified 1 2 slow_cert_slack (1 ∷ []) (record { root = 2; is_root = record { within = lit≤ tt; most = lit< tt }; are = refl }) [] slow_permitted).0.0 in
     absurd (omega arith)

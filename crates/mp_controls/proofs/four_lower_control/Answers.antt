@@ -6,5 +6,5 @@ use Rattle.mp_controls.proofs.ThreeLanes.{lanes_network, lanes_certified, lanes_
 
 pub returns : goal.returns
 returns c law =
-    let h : 4 ≤ 3 = (law three_lanes lanes_network (1, refl, lit≤ tt) (lit≤ tt) three_lanes_cert lanes_certified 1 1 (one_slack three_lanes_cert refl refl) (4 ∷ 3 ∷ 3 ∷ []) lanes_bounds [] lanes_permitted).0.1.0 in
+    let h : 4 ≤ 3 = (law three_lanes lanes_network (refl, (refl, (refl, tt))) (1, refl, lit≤ tt) (lit≤ tt) three_lanes_cert lanes_certified 1 1 (one_slack three_lanes_cert refl refl) (4 ∷ 3 ∷ 3 ∷ []) lanes_bounds [] lanes_permitted).0.1.0 in
     absurd (omega arith)

@@ -20,6 +20,7 @@ fn top_has_bad_number(parts: &NetParts) -> bool
 {
     outside(1, 1000, parts.shares as usize)
         || outside(1, 3600, parts.per as usize)
+        || outside(0, 60, parts.delay as usize)
         || outside(1, 128, parts.links.len())
         || outside(1, 512, parts.movements.len())
         || outside(1, 64, parts.junctions.len())
@@ -41,6 +42,7 @@ fn movement_has_bad_number(parts: &NetParts, k: u32) -> bool
     let movement = &parts.movements[k as usize - 1];
     outside(1, parts.shares as usize, movement.share as usize)
         || outside(1, 1000, movement.flow as usize)
+        || outside(0, 1000000, movement.start as usize)
 }
 
 fn junction_has_bad_number(parts: &NetParts, j: u32) -> bool

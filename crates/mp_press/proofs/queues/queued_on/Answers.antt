@@ -18,6 +18,16 @@ movement-requires c = known c.args.net.now c.args.l _ c.out_of-k-items.ensures c
 pub queue_of-requires : goal.queue_of-requires
 queue_of-requires c = let k = known c.args.net.now c.args.l _ c.out_of-k-items.ensures c.loop-k.k-index c.loop-k-test.true in omega (arith, k, c.requires.len)
 
+pub overflow_mul-sum : goal.overflow_mul-sum
+overflow_mul-sum c =
+    let net = c.args.net.now in
+    let ks = c.out_of-k-items.result.now in
+    let qs = naturals c.args.queues.now in
+    let k = get_or ks c.loop-k.k-index 0 in
+    let value : c.from.result * c.queue_of.result ≡ share_of net k * entry qs k = ap₂ ◌*◌ (c.from.ensures ∙ c.movement.ensures.share) c.queue_of.ensures in
+    let share = share_few net c.requires.acceptable.network k (known net c.args.l ks c.out_of-k-items.ensures c.loop-k.k-index c.loop-k-test.true) in
+    omega (arith, value, product_fits (share_of net k) (entry qs k) (omega (arith, share, c.requires.acceptable.range.shares)) (few_at c.args.queues.now (k - 1) c.requires.counts))
+
 pub loop-k-preserved : goal.loop-k-preserved
 loop-k-preserved c =
     let net = c.args.net.now in

@@ -11,6 +11,7 @@ use Rattle.mp_step.proofs.Closing.{closed_is, all_by_numbers}
 use Rattle.mp_step.proofs.Following.{stands_after, on_after, closed_conserves}
 use Rattle.mp_step.specs.BucketLevels.{AreWithin, buckets_of, level_then, first_above}
 use Rattle.mp_step.proofs.Above.{are_within, then_within}
+use Rattle.mp_step.proofs.Entering.{enter_few}
 use Rattle.mp_step.proofs.Taking.{excess_first, taken_more}
 use Rattle.mp_step.proofs.state.State.close.Goals as goal
 
@@ -45,7 +46,7 @@ invariant_of-self-2 c =
       some = search rules;
       next_some = search rules;
       period = omega arith;
-      few = omega (arith, c.from.ensures, c.move_all-came.ensures.limit);
+      few = omega (arith, c.from.ensures, c.move_all-came.ensures.value, c.self.invariant.few, enter_few net c.shares.ensures.acceptable.network c.shares.ensures.acceptable.range (entry st.levels) counts on.within none);
       conserved = subst (λ (s : Standing). s.total_in ≡ s.total_out + sum s.queues) (sym same) (closed_conserves net c.shares.ensures.acceptable.network st stages counts on c.self.invariant.conserved);
       within =
           subst (λ fs. AreWithin fs c.swap-3.new.x.items) (sym on.buckets)
@@ -102,4 +103,4 @@ returns-clause-step c = λ state s.
 pub returns-clause-on : goal.returns-clause-on
 returns-clause-on c =
     let net = c.args.net.now in
-    subst (IsOn net) (sym (returns-clause-closed c)) (on_after net c.shares.ensures.acceptable.network c.args.self.now c.args.stages.now c.args.arrivals.now c.requires.on (returns-clause-within c))
+    subst (IsOn net) (sym (returns-clause-closed c)) (on_after net c.shares.ensures.acceptable.network c.shares.ensures.acceptable.range c.args.self.now c.args.stages.now c.args.arrivals.now c.requires.on (returns-clause-within c))
