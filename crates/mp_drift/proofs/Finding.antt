@@ -1,12 +1,12 @@
 -- What the stated calculation of the greatest drift value finds, and what the bounds from it are.
-use Rattle.std.proofs.Common.{◌≡◌, ℕ, ◌+◌, ◌*◌, ◌/◌, ◌^◌, ◌<◌, ◌≤◌, ℤ, pos, ◌≤ℤ◌, List, [], ◌∷◌, map, Option, Some, None, option_map, option_and_then, refl, ap, ap₂, sym, ◌∙◌, subst, arith, inl, inr, ◌⊎◌}
+use Rattle.std.proofs.Common.{◌≡◌, ℕ, ◌+◌, ◌*◌, ◌/◌, ◌^◌, ◌<◌, ◌≤◌, max, ℤ, pos, ◌≤ℤ◌, List, [], ◌∷◌, map, Option, Some, None, option_map, option_and_then, refl, ap, ap₂, sym, ◌∙◌, subst, arith, inl, inr, ◌⊎◌}
 use Rattle.std.specs.List.{All, AllByRecursion}
 use Rattle.std.proofs.lemmas.Int.{ints}
 use Rattle.std.proofs.lemmas.Nat.{mul-le}
 use Rattle.std.proofs.lemmas.Bool.{cases_lt}
 use Rattle.std.proofs.lemmas.List.Elements.{All-from_recursion, All-head, All-tail}
 use Rattle.mp_model.specs.Network.{Network, movement_numbers}
-use Rattle.mp_model.specs.Bounds.{drift_constant, queue_threshold, greatest_drift, queue_bound, IsRoot, AreBounds, HasRoom}
+use Rattle.mp_model.specs.Bounds.{drift_constant, start_drift, queue_threshold, greatest_drift, queue_bound, IsRoot, AreBounds, HasRoom}
 use Rattle.mp_drift.specs.Stated.{fitting, unit_of, credit_sum, threshold_from, greatest_from}
 use Rattle.mp_drift.specs.Bounded.{IsFound}
 use Rattle.mp_drift.proofs.Fitting.{fitting_is}
@@ -35,28 +35,31 @@ threshold_is unit drift E D total h =
     let quotient : p.value / q.value ≡ total = cc (q.then) in
     sym quotient ∙ ap₂ ◌/◌ above below
 
-greatest_is : (unit credits drift threshold v : ℕ) → greatest_from unit credits drift threshold ≡ Some v → v ≡ (unit * threshold + credits) * (unit * threshold + credits) + drift
+greatest_is : (unit credits drift starts threshold v : ℕ) → greatest_from unit credits drift starts threshold ≡ Some v → v ≡ max ((unit * threshold + credits) * (unit * threshold + credits) + drift) starts
 unfolding greatest_from
-greatest_is unit credits drift threshold v h =
-    let p = through (λ few. option_and_then (λ root. option_and_then (λ square. fitting (square + drift)) (fitting (root * root))) (fitting (few + credits))) (fitting (unit * threshold)) v h in
-    let q = through (λ root. option_and_then (λ square. fitting (square + drift)) (fitting (root * root))) (fitting (p.value + credits)) v p.then in
-    let r = through (λ square. fitting (square + drift)) (fitting (q.value * q.value)) v q.then in
+greatest_is unit credits drift starts threshold v h =
+    let p = through (λ few. option_and_then (λ root. option_and_then (λ square. option_map (λ v. max v starts) (fitting (square + drift))) (fitting (root * root))) (fitting (few + credits))) (fitting (unit * threshold)) v h in
+    let q = through (λ root. option_and_then (λ square. option_map (λ v. max v starts) (fitting (square + drift))) (fitting (root * root))) (fitting (p.value + credits)) v p.then in
+    let r = through (λ square. option_map (λ v. max v starts) (fitting (square + drift))) (fitting (q.value * q.value)) v q.then in
+    let m = mapped (λ v. max v starts) (fitting (r.value + drift)) v r.then in
     let few : p.value ≡ unit * threshold = fitting_is (unit * threshold) p.value p.is in
     let root : q.value ≡ unit * threshold + credits = fitting_is (p.value + credits) q.value q.is ∙ ap (λ n. n + credits) few in
     let square : r.value ≡ (unit * threshold + credits) * (unit * threshold + credits) = fitting_is (q.value * q.value) r.value r.is ∙ ap (λ n. n * n) root in
-    fitting_is (r.value + drift) v r.then ∙ ap (λ n. n + drift) square
+    let risen : m.value ≡ (unit * threshold + credits) * (unit * threshold + credits) + drift = fitting_is (r.value + drift) m.value m.is ∙ ap (λ n. n + drift) square in
+    let greater : max m.value starts ≡ v = cc (m.then) in
+    sym greater ∙ ap (λ n. max n starts) risen
 
 -- what was found is the threshold and the greatest drift value of the model
-pub found : (net : Network) (E D total vmax : ℕ) → threshold_from (unit_of net) (drift_constant net) E D ≡ Some total → greatest_from (unit_of net) (credit_sum net) (drift_constant net) total ≡ Some vmax → IsFound net E D total vmax
+pub found : (net : Network) (E D total vmax : ℕ) → threshold_from (unit_of net) (drift_constant net) E D ≡ Some total → greatest_from (unit_of net) (credit_sum net) (drift_constant net) (start_drift net) total ≡ Some vmax → IsFound net E D total vmax
 found net E D total vmax t g =
     let total_is : total ≡ queue_threshold net E D = threshold_is (unit_of net) (drift_constant net) E D total t in
     let vmax_is : vmax ≡ greatest_drift net E D =
-    greatest_is (unit_of net) (credit_sum net) (drift_constant net) total vmax g
-    ∙ ap (λ n. (unit_of net * n + credit_sum net) * (unit_of net * n + credit_sum net) + drift_constant net) total_is in
+    greatest_is (unit_of net) (credit_sum net) (drift_constant net) (start_drift net) total vmax g
+    ∙ ap (λ n. max ((unit_of net * n + credit_sum net) * (unit_of net * n + credit_sum net) + drift_constant net) (start_drift net)) total_is in
     record {
       total_is = total_is;
       vmax_is = vmax_is;
-      stated = ap (option_and_then (greatest_from (unit_of net) (credit_sum net) (drift_constant net))) t ∙ g ∙ ap (λ n. Some n) vmax_is;
+      stated = ap (option_and_then (greatest_from (unit_of net) (credit_sum net) (drift_constant net) (start_drift net))) t ∙ g ∙ ap (λ n. Some n) vmax_is;
     }
 
 map_pos : (f : ℕ → ℕ) (xs : List ℕ) → map (λ k. pos (f k)) xs ≡ map pos (map f xs)

@@ -1,17 +1,19 @@
 -- How great the numbers of a network and the terms of its movements are.
-use Rattle.std.proofs.Common.{◌≡◌, ◌==◌, ℕ, ◌+◌, ◌-◌, ◌*◌, ◌/◌, ◌^◌, ◌≤◌, Bool, true, List, [], ◌∷◌, length, filter, sum_by, arith, refl, eq-eqb}
+use Rattle.std.proofs.Common.{◌≡◌, ◌==◌, ℕ, ◌+◌, ◌-◌, ◌*◌, ◌/◌, ◌^◌, ◌≤◌, Bool, true, List, [], ◌∷◌, length, filter, sum_by, arith, refl, eq-eqb, ⊎_elim, mul-le-mul_right, ◌<◌}
 use Rattle.std.proofs.lemmas.Nat.{mul-le}
+use Rattle.std.proofs.lemmas.Bool.{cases_lt}
+use Rattle.std.proofs.Math.Nat.{div-mul-le_self}
 use Rattle.std.proofs.lemmas.List.Elements.{All-from_recursion}
 use Rattle.std.proofs.lemmas.List.FromFn.{length-range_with_len}
 use Rattle.std.proofs.lemmas.List.Sums.{length-filter, count_by-le-length, sum_by-le}
-use Rattle.mp_model.specs.Network.{Network, movement_numbers, link_numbers, numbers_to, has, no_movement, no_link, link_at, out_of, into_link, goes_to, from_of, to_of, share_of, flow_of, burst_before, rate_before}
+use Rattle.mp_model.specs.Network.{Network, movement_numbers, link_numbers, numbers_to, has, no_movement, no_link, link_at, out_of, into_link, goes_to, from_of, to_of, share_of, flow_of, start_of, burst_before, rate_before}
 use Rattle.mp_model.specs.NetworkRules.{IsAcceptable}
-use Rattle.mp_model.specs.Bounds.{credit_term, step_term}
+use Rattle.mp_model.specs.Bounds.{credit_term, step_term, greatest_change}
 use Rattle.mp_laws.proofs.Lists.{at_index, at_in, all_in, at_range, has_filter, in_numbers, all_of}
 use Rattle.mp_laws.proofs.Sums.{terms_le}
 use Rattle.mp_drift.specs.Flows.{flow_into}
 
-few_kept : (p : ℕ → Bool) (n : ℕ) → length (filter p (numbers_to n)) ≤ n
+pub few_kept : (p : ℕ → Bool) (n : ℕ) → length (filter p (numbers_to n)) ≤ n
 few_kept p n = omega (arith, length-filter p (numbers_to n), count_by-le-length p (numbers_to n), length-range_with_len 1 n)
 
 -- what the numbers of movement k are at most
@@ -28,6 +30,7 @@ pub record Limits (net : Network) (k : ℕ) : Type 0 where
   pub flow : flow_of net k ≤ 1000
   pub burst : burst_before net k ≤ 10000
   pub rate : rate_before net k ≤ 3600000
+  pub rates : rate_before net k ≤ 1000 * net.per
   pub into : flow_into net (from_of net k) ≤ 512000
 
 pub flow_few : (net : Network) → IsAcceptable net → (k : ℕ) → flow_of net k ≤ 1000
@@ -73,6 +76,7 @@ limits net k ok low high =
       flow = flow_few net ok k;
       burst = at_index (λ link. link.burst ≤ 10000) no_link net.links (l - 1) range.bursts (omega arith);
       rate = omega (arith, rates);
+      rates = rates;
       into = flow_into_few net ok l;
     }
 
@@ -122,7 +126,23 @@ step_few net k h =
     let p = step_products net.per net.shares (share_of net k) (flow_of net k) (flow_into net (from_of net k)) (rate_before net k) h.per h.shares h.share h.flow h.into h.rate in
     omega (arith, p.out, p.shared)
 
-pub ruleset terms = (limits, credit_products, step_products, credit_few, step_few)
+-- a rate rounded up to vehicles a period
+pub rate_rounded : (per rate : ℕ) → 1 ≤ per → per ≤ 3600 → rate ≤ 1000 * per → (rate + per - 1) / per ≤ 1000
+rate_rounded per rate some most h =
+    let x = (rate + per - 1) / per in
+    let low : x * per ≤ rate + per - 1 = div-mul-le_self (rate + per - 1) per in
+    ⊎_elim (λ (more : 1000 < x). absurd (omega (arith, mul-le-mul_right per more))) (λ (few : x ≤ 1000). few) (cases_lt 1000 x)
+
+pub change_few : (net : Network) (k : ℕ) → Limits net k → greatest_change net k ≤ 523000
+change_few net k h = omega (arith, h.flow, h.into, h.burst, rate_rounded net.per (rate_before net k) h.some_per h.per h.rates)
+
+pub start_few : (net : Network) → IsAcceptable net → (k : ℕ) → start_of net k ≤ 10 ^ 6
+start_few net ok k = at_index (λ m. m.start ≤ 10 ^ 6) no_movement net.movements (k - 1) ok.range.starts (omega arith)
+
+pub start_square : (unit start : ℕ) → unit ≤ 3600000 → start ≤ 10 ^ 6 → unit * start * (unit * start) ≤ (3600000 * 10 ^ 6) * (3600000 * 10 ^ 6)
+start_square unit start u s = let one = mul-le unit start 3600000 (10 ^ 6) u s in mul-le (unit * start) (unit * start) (3600000 * 10 ^ 6) (3600000 * 10 ^ 6) one one
+
+pub ruleset terms = (limits, credit_products, step_products, credit_few, step_few, change_few)
 
 pub quarter_few : (n : ℕ) → n ≤ 1000 → n * n / 4 ≤ 250000
 quarter_few n h = omega (arith, mul-le n n 1000 1000 h h)

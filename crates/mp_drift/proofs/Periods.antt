@@ -1,23 +1,28 @@
 -- A period keeps what a session keeps.
-use Rattle.std.proofs.Common.{◌≡◌, ◌≤◌, ◌<◌, ℕ, ◌+◌, ◌-◌, ◌*◌, ◌%◌, ℤ, List, [], ◌∷◌, zero, suc, length, map, sum_by, pos, unsigned_abs, arith, refl, sym, ◌∙◌, ap, subst}
+use Rattle.std.proofs.Common.{◌≡◌, ◌≤◌, ◌<◌, ℕ, ◌+◌, ◌-◌, ◌*◌, ◌%◌, ℤ, List, [], ◌∷◌, zero, suc, length, map, sum_by, pos, nat_abs, ◌+ℤ◌, ◌-ℤ◌, ◌*ℤ◌, true, unsigned_abs, arith, refl, sym, ◌∙◌, ap, subst}
 use Rattle.std.specs.List.{AllByRecursion}
 use Rattle.std.specs.Prelude.{slice_index_or, slice_index}
 use Rattle.std.proofs.lemmas.Simd.{map-map}
 use Rattle.std.proofs.lemmas.List.{length-map}
 use Rattle.std.proofs.lemmas.List.FromFn.{length-range_with_len}
 use Rattle.mp_model.specs.Arrivals.{arrivals_of}
-use Rattle.mp_model.specs.Network.{Network, movement_numbers, link_numbers, link_at, from_of, entry}
+use Rattle.mp_model.specs.Network.{Network, movement_numbers, link_numbers, link_at, from_of, share_of, out_of, has, entry}
 use Rattle.mp_model.specs.NetworkRules.{IsNetwork}
 use Rattle.mp_model.specs.Pressure.{AllGreatest}
 use Rattle.mp_model.specs.Bounds.{queue_bound}
 use Rattle.mp_model.specs.Run.{opening, advance, greatest_stages}
-use Rattle.mp_model.specs.Step.{State, passed, got, new_queue, step}
-use Rattle.mp_laws.specs.Periods.{IsPeriod}
-use Rattle.mp_laws.proofs.Keeps.{drift_kept, few_queued, queues_bounded}
+use Rattle.mp_model.specs.DriftValue.{corrected_queue, drift_value}
+use Rattle.mp_model.specs.Split.{credit}
+use Rattle.mp_model.specs.Step.{State, queue, passed, got, new_queue, step}
+use Rattle.mp_laws.specs.Periods.{IsPeriod, phase_of}
+use Rattle.mp_laws.proofs.Bounds.{opening_value}
+use Rattle.mp_laws.proofs.Serve.{nearly}
+use Rattle.mp_laws.proofs.Keeps.{drift_kept, queues_bounded}
 use Rattle.mp_laws.proofs.Lists.{at_in, at_range, each_in, numbered}
-use Rattle.mp_laws.proofs.Sums.{sum_by-same_at, sum_by-zero}
+use Rattle.mp_laws.proofs.Sums.{sum_by-same_at}
 use Rattle.mp_step.specs.BucketLevels.{level_then}
 use Rattle.mp_step.specs.Standing.{Standing, IsOn, Stands, closed}
+use Rattle.mp_step.specs.Taken.{HasTaken}
 use Rattle.mp_drift.specs.Bounded.{excess, denominator}
 use Rattle.mp_drift.specs.Session.{Bounded, IsBounded, HasLowDrift}
 
@@ -44,7 +49,7 @@ closed_period net st on stages counts =
 -- a period with greatest stages keeps the drift value low
 pub low_after : (s : Bounded) → IsBounded s → (stages counts : List ℕ) → AllGreatest s.net (entry s.at.queues) s.net.junctions stages → HasLowDrift s.net (excess s.slack) (denominator s.slack) (closed s.net s.at stages counts)
 low_after s b stages counts greatest =
-    drift_kept s.net b.acceptable.network b.certified.0 b.certified.1 (excess s.slack) (denominator s.slack) b.certified.2 stages (arrivals_of s.net counts) (entry s.at.queues) (entry s.at.phases) (entry s.at.levels) _ _ _ greatest
+    drift_kept s.net b.acceptable.network b.certified.0 b.certified.1 (excess s.slack) (denominator s.slack) b.certified.2 stages (arrivals_of s.net counts) (entry s.at.queues) (entry s.at.phases) (entry s.at.levels) _ _ _ (nearly s.net (entry s.at.queues) s.net.junctions stages greatest)
     (closed_period s.net s.at b.on stages counts) b.on.within b.drift
 
 pub bounded_after : (s : Bounded) → IsBounded s → (stages counts last : List ℕ) (new : Standing) → AllGreatest s.net (entry s.at.queues) s.net.junctions stages → new ≡ closed s.net s.at stages counts → IsOn s.net new →
@@ -57,13 +62,26 @@ bounded_after s b stages counts last new greatest is on = record {
   drift = subst (HasLowDrift s.net (excess s.slack) (denominator s.slack)) (sym is) (low_after s b stages counts greatest);
 }
 
--- at the opening nothing is queued, and so the drift value is low
-pub low_at_opening : (net : Network) → IsNetwork net → (st : Standing) → IsOn net st → Stands net st (opening net) → (E D : ℕ) → HasLowDrift net E D st
-low_at_opening net ok st on stands E D =
-    let ks = movement_numbers net in
-    let none : sum_by (entry st.queues) ks ≡ 0 = sum_by-same_at (entry st.queues) (λ k. 0) ks (each_in _ ks (λ k i. ap (λ xs. entry xs k) stands.queues ∙ numbered (λ k. 0) (length net.movements) k i)) ∙ sum_by-zero ks in
-    let few = few_queued net ok E D (entry st.queues) (entry st.phases) (entry st.levels) on.within (omega (arith, none)) in
-    omega (arith, few)
+-- the drift value reads queues, phases and levels alone
+same_value : (net : Network) → IsNetwork net → (q q' phase phase' level level' : ℕ → ℕ) → AllByRecursion (λ k. q k ≡ q' k) (movement_numbers net) → AllByRecursion (λ l. phase l ≡ phase' l) (link_numbers net) → AllByRecursion (λ l. level l ≡ level' l) (link_numbers net) →
+    drift_value net q phase level ≡ drift_value net q' phase' level'
+same_value net ok q q' phase phase' level level' qs ps ls = sum_by-same_at
+    (λ k. nat_abs (corrected_queue net q phase level k) * nat_abs (corrected_queue net q phase level k)) (λ k. nat_abs (corrected_queue net q' phase' level' k) * nat_abs (corrected_queue net q' phase' level' k)) (movement_numbers net)
+    (each_in _ (movement_numbers net) (λ k i.
+    let l = from_of net k in
+    let there : has (link_numbers net) l ≡ true = at_in (λ k. has (link_numbers net) (from_of net k) ≡ true) k (movement_numbers net) i ok.from in
+    let value : ℕ → ℕ → ℕ → ℤ = λ a b c. pos (net.shares * net.per * a) +ℤ pos net.per *ℤ credit net.shares (share_of net) (out_of net l) b k -ℤ pos (share_of net k * c) in
+    ap (λ x. nat_abs x * nat_abs x)
+    (ap (λ a. value a (phase l) (level l)) (at_in (λ k. q k ≡ q' k) k (movement_numbers net) i qs)
+    ∙ ap (λ b. value (q' k) b (level l)) (at_in (λ l. phase l ≡ phase' l) l (link_numbers net) there ps)
+    ∙ ap (λ c. value (q' k) (phase' l) c) (at_in (λ l. level l ≡ level' l) l (link_numbers net) there ls))))
+
+-- at the opening the drift value is that of the start queues
+pub low_at_opening : (net : Network) → IsNetwork net → (st : Standing) → Stands net st (opening net) → HasTaken net st [] → (E D : ℕ) → HasLowDrift net E D st
+low_at_opening net ok st stands taken E D =
+    let same = same_value net ok (entry st.queues) (queue (opening net)) (entry st.phases) (phase_of net (opening net)) (entry st.levels) (λ l. 0)
+    (each_in (λ k. entry st.queues k ≡ queue (opening net) k) (movement_numbers net) (λ k i. ap (λ xs. entry xs k) stands.queues)) stands.phases taken.levels in
+    omega (arith, same, opening_value net ok E D)
 
 -- each queue is at most its bound
 pub within_bounds : (s : Bounded) → (b : IsBounded s) → AllByRecursion (λ k. entry s.at.queues k ≤ entry b.bounds.bounds k) (movement_numbers s.net)

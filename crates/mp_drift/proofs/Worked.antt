@@ -19,8 +19,9 @@ abbrev lone : Network
 lone = record {
   shares = 1;
   per = 1;
+  delay = 0;
   links = record { name = codes "a"; burst = 0; rate = 1 } ∷ [];
-  movements = record { name = codes "ao"; from = 1; to = None; share = 1; flow = 2 } ∷ [];
+  movements = record { name = codes "ao"; from = 1; to = None; share = 1; flow = 2; start = 0 } ∷ [];
   junctions = record { name = codes "j"; stages = (1 ∷ []) ∷ [] } ∷ [];
 }
 

@@ -1,7 +1,7 @@
 -- The greatest drift value as a stated calculation: each operation gives its number, or nothing where it passes 128 signed bits. The root of the greatest drift value plus a credit-and-burst term never passes them.
-use Rattle.std.specs.Prelude.{ℕ, ◌+◌, ◌*◌, ◌/◌, ◌^◌, nat_lt, if◌then◌else◌, sum_by, Option, Some, None, option_map, option_and_then}
+use Rattle.std.specs.Prelude.{ℕ, ◌+◌, ◌*◌, ◌/◌, ◌^◌, max, nat_lt, if◌then◌else◌, sum_by, Option, Some, None, option_map, option_and_then}
 use Rattle.mp_model.specs.Network.{Network, movement_numbers}
-use Rattle.mp_model.specs.Bounds.{credit_term, drift_constant}
+use Rattle.mp_model.specs.Bounds.{credit_term, drift_constant, start_drift}
 
 -- This is a number where it fits 128 signed bits, and nothing where it passes them.
 unfoldable pub fitting : ℕ → Option ℕ
@@ -19,12 +19,12 @@ credit_sum net = sum_by (credit_term net) (movement_numbers net)
 unfoldable pub threshold_from : ℕ → ℕ → ℕ → ℕ → Option ℕ
 threshold_from unit drift E D = option_and_then (λ above. option_map (λ below. above / below) (fitting (2 * (unit * unit) * E))) (fitting (D * drift))
 
--- This is the greatest drift value from a unit, a sum of credit-and-burst terms, a drift constant and a threshold: the unit times the threshold, plus the sum, then the square of this, plus the drift constant.
-unfoldable pub greatest_from : ℕ → ℕ → ℕ → ℕ → Option ℕ
-greatest_from unit credits drift threshold =
-    option_and_then (λ few. option_and_then (λ root. option_and_then (λ square. fitting (square + drift)) (fitting (root * root))) (fitting (few + credits))) (fitting (unit * threshold))
+-- This is the greatest drift value from a unit, a sum of credit-and-burst terms, a drift constant, the drift value of the start queues and a threshold: the unit times the threshold, plus the sum, then the square of this, plus the drift constant, and the greater of this and the value of the start queues, which never exceeds 128 bits.
+unfoldable pub greatest_from : ℕ → ℕ → ℕ → ℕ → ℕ → Option ℕ
+greatest_from unit credits drift starts threshold =
+    option_and_then (λ few. option_and_then (λ root. option_and_then (λ square. option_map (λ v. max v starts) (fitting (square + drift))) (fitting (root * root))) (fitting (few + credits))) (fitting (unit * threshold))
 
 -- This is the greatest drift value of a network under the slack E/D by the stated calculation, and nothing where it passes 128 bits.
 abbrev pub stated_greatest : Network → ℕ → ℕ → Option ℕ
 stated_greatest net E D =
-    option_and_then (greatest_from (unit_of net) (credit_sum net) (drift_constant net)) (threshold_from (unit_of net) (drift_constant net) E D)
+    option_and_then (greatest_from (unit_of net) (credit_sum net) (drift_constant net) (start_drift net)) (threshold_from (unit_of net) (drift_constant net) E D)

@@ -1,11 +1,11 @@
 //! The constants of a network.
 ghost use Rattle.std.specs.Prelude.{◌≡◌, ◌*◌, ◌/◌, ◌<◌, ◌≤◌, ◌^◌, length, map, sum_by, IfOk, OnOk, pos, unsigned_abs, slice_index_or, ◌-◌};
 ghost use Rattle.mp_model.specs.Network.{movement_numbers, flow_of};
-ghost use Rattle.mp_model.specs.Bounds.{credit_term, step_term, drift_constant};
+ghost use Rattle.mp_model.specs.Bounds.{credit_term, step_term, greatest_change, report_shift, prompt_constant, drift_constant};
 ghost use Rattle.mp_drift.specs.Constants.{AreConstants};
 
 use crate::checked::signed;
-use crate::terms::{credit_terms, flows_into, step_terms, unit};
+use crate::terms::{credit_terms, flows_into, greatest_changes, report_shift, step_terms, unit};
 use mp_net::{MovementNo, Net, NoMemory};
 use mp_num::Numbers;
 use std::alloc::Global;
@@ -96,15 +96,40 @@ fn squares(net: &Net, m: &[i128]) -> u128
     sum
 }
 
-/// The drift constant from both lists of terms.
-fn drift_constant(net: &Net, k: &[i128], m: &[i128]) -> u128
+/// The sum of the flows, each times what old reports can shift the weight by.
+#[tactic(auto, using(crate::proofs::Loops::counting))]
+fn shifts(net: &Net, changes: &[u64]) -> u128
+    requires { changes.now ≡ map (greatest_change net.now) (movement_numbers net.now) }
+    ensures value { result ≡ sum_by (λ k. flow_of net.now k * report_shift net.now k) (movement_numbers net.now) }
+    ensures few { result ≤ 2 ^ 63 }
+{
+    let _shares = net.shares();
+    let mut sum: u128 = 0;
+    for k in 0..net.movements() {
+        sum += u128::from(net.movement(k + 1).flow) * u128::from(report_shift(net, changes, k + 1));
+    }
+    sum
+}
+
+/// The drift constant without reports, from both lists of terms.
+fn prompt_constant(net: &Net, k: &[i128], m: &[i128]) -> u128
     requires credits { k.now ≡ map (λ k. pos (credit_term net.now k)) (movement_numbers net.now) }
     requires steps { m.now ≡ map (λ k. pos (step_term net.now k)) (movement_numbers net.now) }
-    ensures value { result ≡ drift_constant net.now }
-    ensures few { result < 2 ^ 100 }
+    ensures value { result ≡ prompt_constant net.now }
+    ensures few { result < 2 ^ 99 }
 {
     let unit = unit(net);
     2 * (unit * unit) * quarters(net) + 2 * products(net, k, m) + squares(net, m)
+}
+
+/// What old reports add to the drift constant.
+fn report_constant(net: &Net, changes: &[u64]) -> u128
+    requires { changes.now ≡ map (greatest_change net.now) (movement_numbers net.now) }
+    ensures value { result ≡ 4 * (net.now.shares * (net.now.per * net.now.per)) * sum_by (λ k. flow_of net.now k * report_shift net.now k) (movement_numbers net.now) }
+    ensures few { result < 2 ^ 99 }
+{
+    let per = u128::from(net.per());
+    4 * (u128::from(net.shares()) * (per * per)) * shifts(net, changes)
 }
 
 /// The constants of the network. Within the limits of a network they are all far below 2^127.
@@ -115,9 +140,10 @@ pub fn constants(alloc: Global, net: &Net) -> Result<DriftNumbers, NoMemory>
     ensures limit { OnOk result (drift_constant net.now < 2 ^ 100) }
 {
     let into = flows_into(alloc, net)?;
+    let changes = greatest_changes(alloc, net, &into)?;
     let k = credit_terms(alloc, net)?;
     let m = step_terms(alloc, net, &into)?;
-    let b = drift_constant(net, &k, &m);
+    let b = prompt_constant(net, &k, &m) + report_constant(net, &changes);
     Ok(DriftNumbers {
         k: Numbers::new(k),
         m: Numbers::new(m),

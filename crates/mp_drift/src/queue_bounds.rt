@@ -1,7 +1,7 @@
 //! The bound of every queue under a slack.
-ghost use Rattle.std.specs.Prelude.{◌≡◌, ◌*◌, ◌/◌, ◌+◌, ◌<◌, ◌≤◌, ◌≤ℤ◌, ◌^◌, length, map, sum_by, IfOk, IfSome, IfNone, None, pos, ℤ, List, IsTrue, ◌↔◌, All, unsigned_abs};
+ghost use Rattle.std.specs.Prelude.{◌≡◌, ◌*◌, ◌/◌, ◌+◌, ◌<◌, ◌≤◌, ◌≤ℤ◌, ◌^◌, length, map, max, sum_by, IfOk, IfSome, IfNone, None, pos, ℤ, List, IsTrue, ◌↔◌, All, unsigned_abs};
 ghost use Rattle.mp_model.specs.Network.{movement_numbers};
-ghost use Rattle.mp_model.specs.Bounds.{credit_term, drift_constant, queue_threshold, greatest_drift, queue_bound, IsRoot};
+ghost use Rattle.mp_model.specs.Bounds.{credit_term, drift_constant, start_drift, queue_threshold, greatest_drift, queue_bound, IsRoot};
 ghost use Rattle.mp_num.specs.Fraction.{Fraction};
 ghost use Rattle.mp_drift.specs.Constants.{AreConstants};
 ghost use Rattle.mp_drift.specs.Stated.{unit_of, credit_sum, stated_greatest, threshold_from, greatest_from};
@@ -95,19 +95,50 @@ fn threshold(unit: u128, drift: u128, num: u128, den: u128) -> Option<u128>
     Some(above / below)
 }
 
+/// The greater of two numbers.
+fn greater(a: u128, b: u128) -> u128
+    ensures { result ≡ max a b }
+{
+    if a < b { b } else { a }
+}
+
+/// The drift value of the start queues.
+#[tactic(auto, using(crate::proofs::Loops::counting))]
+fn start_drift(net: &Net) -> u128
+    ensures value { result ≡ start_drift net.now }
+    ensures fits { result < 2 ^ 127 }
+{
+    let _shares = net.shares();
+    let unit = unit(net);
+    let mut sum: u128 = 0;
+    for k in 0..net.movements() {
+        let start = unit * u128::from(net.movement(k + 1).start);
+        sum += start * start;
+    }
+    sum
+}
+
 /// The greatest drift value at a threshold, or `None` where the calculation passes 128 bits.
 #[tactic(auto, using(crate::proofs::Fitting::fitting_is), unfolding(crate::specs::Stated::greatest_from))]
-fn greatest(unit: u128, credits: u128, drift: u128, threshold: u128) -> Option<u128>
+fn greatest(
+    unit: u128,
+    credits: u128,
+    drift: u128,
+    starts: u128,
+    threshold: u128,
+) -> Option<u128>
     requires unit { unit ≤ 3600000 }
     requires credits { credits < 2 ^ 127 }
     requires drift { drift < 2 ^ 127 }
+    requires starts { starts < 2 ^ 127 }
     requires threshold { threshold < 2 ^ 127 }
-    ensures value { result ≡ greatest_from unit credits drift threshold }
+    ensures value { result ≡ greatest_from unit credits drift starts threshold }
     ensures fits { IfSome result (λ n. n < 2 ^ 127) }
 {
     let few = product(unit, threshold)?;
     let root = sum(few, credits)?;
-    sum(product(root, root)?, drift)
+    let risen = sum(product(root, root)?, drift)?;
+    Some(greater(risen, starts))
 }
 
 /// The queue threshold and the greatest drift value.
@@ -130,7 +161,7 @@ fn greatest_of(net: &Net, constants: &DriftNumbers, slack: &Frac) -> Option<Reac
     let drift = drift_of(net, constants);
     let credits = credit_sum(net, constants.k.as_slice());
     let total = threshold(unit, drift, excess_of(slack), denominator_of(slack))?;
-    let vmax = greatest(unit, credits, drift, total)?;
+    let vmax = greatest(unit, credits, drift, start_drift(net), total)?;
     Some(Reached { total, vmax })
 }
 

@@ -1,7 +1,7 @@
 //! The terms of a network's movements.
-ghost use Rattle.std.specs.Prelude.{◌≡◌, ◌*◌, ◌<◌, ◌≤◌, ◌^◌, length, map, max, IfOk, pos};
-ghost use Rattle.mp_model.specs.Network.{movement_numbers, link_numbers};
-ghost use Rattle.mp_model.specs.Bounds.{credit_term, step_term};
+ghost use Rattle.std.specs.Prelude.{◌≡◌, ◌*◌, ◌<◌, ◌≤◌, ◌^◌, length, map, max, sum_by, IfOk, pos};
+ghost use Rattle.mp_model.specs.Network.{movement_numbers, link_numbers, out_of, share_of};
+ghost use Rattle.mp_model.specs.Bounds.{credit_term, step_term, greatest_change, report_shift};
 ghost use Rattle.mp_drift.specs.Flows.{flow_into};
 ghost use Rattle.mp_drift.specs.Stated.{unit_of};
 
@@ -95,6 +95,79 @@ fn step_term(net: &Net, into: &[u64], k: MovementNo) -> u64
     let rate = u64::from(net.link(movement.from).rate);
     let came = flow_at(net, into, movement.from);
     greater(shares * per * flow, share * (per * came + rate))
+}
+
+/// The greatest change of the queue of movement `k` in a period, where `into` has the sum of the flows into each link.
+#[tactic(auto, using(crate::proofs::Limits::terms))]
+fn greatest_change(net: &Net, into: &[u64], k: MovementNo) -> u64
+    requires known { (1 ≤ k) × (k ≤ length net.now.movements) }
+    requires sums { into.now ≡ map (flow_into net.now) (link_numbers net.now) }
+    ensures value { result ≡ greatest_change net.now k }
+    ensures few { result ≤ 523000 }
+{
+    let per = u64::from(net.per());
+    let _shares = net.shares();
+    let movement = net.movement(k);
+    let flow = u64::from(movement.flow);
+    let link = net.link(movement.from);
+    let burst = u64::from(link.burst);
+    let rate = u64::from(link.rate);
+    let came = flow_at(net, into, movement.from);
+    greater(flow, came + burst + (rate + per - 1) / per)
+}
+
+/// The greatest change of each queue in a period, in movement order.
+#[tactic(auto, using(crate::proofs::Loops::listing))]
+pub fn greatest_changes(alloc: Global, net: &Net, into: &[u64]) -> Result<Vec<u64>, AllocError>
+    requires { into.now ≡ map (flow_into net.now) (link_numbers net.now) }
+    ensures { IfOk result (λ changes. changes.items ≡ map (greatest_change net.now) (movement_numbers net.now)) }
+{
+    let mut changes = Vec::new(alloc);
+    for k in 0..net.movements() {
+        changes.push(greatest_change(net, into, k + 1))?;
+    }
+    Ok(changes)
+}
+
+/// The greatest change of movement `k`, from a list of all.
+fn change_at(net: &Net, changes: &[u64], k: MovementNo) -> u64
+    requires known { (1 ≤ k) × (k ≤ length net.now.movements) }
+    requires changes { changes.now ≡ map (greatest_change net.now) (movement_numbers net.now) }
+    ensures value { result ≡ greatest_change net.now k }
+    ensures few { result ≤ 523000 }
+{
+    let _shares = net.shares();
+    changes[usize::from(k) - 1]
+}
+
+/// The sum of the greatest changes of the movements out of link `l`, each times its share.
+#[tactic(auto, using(crate::proofs::Loops::summing))]
+fn changes_on(net: &Net, changes: &[u64], l: LinkNo) -> u64
+    requires known { (1 ≤ l) × (l ≤ length net.now.links) }
+    requires changes { changes.now ≡ map (greatest_change net.now) (movement_numbers net.now) }
+    ensures value { result ≡ sum_by (λ k. share_of net.now k * greatest_change net.now k) (out_of net.now l) }
+    ensures few { result ≤ 512 * 523000000 }
+{
+    let _shares = net.shares();
+    let mut sum: u64 = 0;
+    for k in net.out_of(l) {
+        sum += u64::from(net.movement(*k).share) * change_at(net, changes, *k);
+    }
+    sum
+}
+
+/// What old reports can shift the weight of movement `k` by, where `changes` has the greatest change of each queue.
+pub fn report_shift(net: &Net, changes: &[u64], k: MovementNo) -> u64
+    requires known { (1 ≤ k) × (k ≤ length net.now.movements) }
+    requires changes { changes.now ≡ map (greatest_change net.now) (movement_numbers net.now) }
+    ensures value { result ≡ report_shift net.now k }
+    ensures few { result ≤ 60 * (512 * 523000000) }
+{
+    let _shares = net.shares();
+    match net.movement(k).to {
+        None => 0,
+        Some(l) => u64::from(net.delay()) * changes_on(net, changes, l),
+    }
 }
 
 /// The credit-and-burst terms, one per movement in movement order.

@@ -1,5 +1,5 @@
 use Rattle.std.proofs.Common.{◌≡◌, Some}
-use Rattle.mp_model.specs.Bounds.{drift_constant}
+use Rattle.mp_model.specs.Bounds.{drift_constant, start_drift}
 use Rattle.mp_drift.specs.Stated.{unit_of, credit_sum, threshold_from, greatest_from}
 use Rattle.mp_drift.specs.Bounded.{excess, denominator}
 use Rattle.mp_drift.proofs.Finding.{found}
@@ -12,6 +12,6 @@ returns-clause-found c =
     let D = denominator c.args.slack.now in
     let t : threshold_from (unit_of net) (drift_constant net) E D ≡ Some c.in_ok-total.total =
     cc (c.in_ok-total.ensures.value, c.unit-unit.ensures.value, c.drift_of-drift.ensures.value, c.excess_of.ensures.value, c.denominator_of.ensures.value) in
-    let g : greatest_from (unit_of net) (credit_sum net) (drift_constant net) c.in_ok-total.total ≡ Some c.in_ok-vmax.vmax =
-    cc (c.in_ok-vmax.ensures.value, c.unit-unit.ensures.value, c.drift_of-drift.ensures.value, c.credit_sum-credits.ensures.value) in
+    let g : greatest_from (unit_of net) (credit_sum net) (drift_constant net) (start_drift net) c.in_ok-total.total ≡ Some c.in_ok-vmax.vmax =
+    cc (c.in_ok-vmax.ensures.value, c.unit-unit.ensures.value, c.drift_of-drift.ensures.value, c.credit_sum-credits.ensures.value, c.start_drift.ensures.value) in
     found net E D c.in_ok-total.total c.in_ok-vmax.vmax t g

@@ -29,7 +29,7 @@ invariant_of-result c =
       certified = (cert_of c.args.cert.now, certifies, slack);
       bounds = c.in-Ok-bounds.ensures.bounds;
       on = c.in-Ok-empty.ensures.on;
-      drift = low_at_opening c.args.net.now c.shares.ensures.acceptable.network c.in-Ok-empty.state c.in-Ok-empty.ensures.on c.in-Ok-empty.ensures.opening (excess c.slack-slack.result) (denominator c.slack-slack.result);
+      drift = low_at_opening c.args.net.now c.shares.ensures.acceptable.network c.in-Ok-empty.state c.in-Ok-empty.ensures.opening c.in-Ok-empty.ensures.taken (excess c.slack-slack.result) (denominator c.slack-slack.result);
     }
 
 pub returns-clause-slack : goal.returns-clause-slack
