@@ -1,5 +1,6 @@
-pub mod CompleteLemmas
-pub mod EndLemmas
 pub mod MessageLemmas
+pub mod OpeningLemmas
+pub mod SessionLemmas
 pub mod VectorLemmas
-pub mod RunLemmas
+pub mod HeadlineLemmas
+pub mod CompleteLemmas

@@ -1,23 +1,40 @@
 -- The line of an outcome, and how it is put in parts.
-use Rattle.std.proofs.Common.{◌≡◌, ◌≤◌, ◌++◌, ◌∷◌, ℕ, List, [], Result, Ok, Err, true, false, codes, refl, ◌∙◌, ap, arith}
-use Rattle.std.proofs.lemmas.List.{append_assoc}
-use Rattle.mp_edge.specs.Outside.{Puts, HasCause}
+use Rattle.std.proofs.Common.{◌≡◌, ◌≤◌, ◌++◌, ℕ, List, [], Result, Ok, Err, inl, inr, codes, refl, sym, ◌∙◌, ap, arith}
+use Rattle.std.specs.declared.option.Option.{Option}
+use Rattle.std.proofs.lemmas.List.{append_assoc, append-nil}
+use Rattle.mp_edge.specs.Outside.{Tells, Puts, HasCause}
 use Rattle.mp_edge.proofs.Counts.{Rose-within}
 use Rattle.mp_edge.proofs.Gains.{GainsPrefix-then}
+use Rattle.mp_edge.proofs.Told.{Tells-same}
+use Rattle.mp_run.specs.declared.run.RunEnd.TheVariants as end
+use Rattle.mp_cli.specs.declared.outcome.FileRole.{FileRole}
 use Rattle.mp_cli.specs.declared.outcome.Outcome.{Outcome}
-use Rattle.mp_cli.specs.declared.outcome.Outcome.TheVariants.{Done, Store}
-use Rattle.mp_cli.specs.Messages.{message_of, words_of, vector_behind, is_store}
+use Rattle.mp_cli.specs.declared.outcome.Outcome.TheVariants.{Done, Run, Store}
+use Rattle.mp_cli.specs.Commands.{Command}
+use Rattle.mp_cli.specs.Ends.{ErrorOutput, Reports}
+use Rattle.mp_cli.specs.Messages.{message_of, words_of, vector_behind}
+use Rattle.mp_cli.specs.Statuses.{status_of}
 
--- an outcome that has a line and is no fault of the store is told by its words
-pub message_is : (name : List ℕ) (outcome : Outcome) → (outcome ≡ Done → ⊥) → is_store outcome ≡ false → message_of name outcome ≡ (words_of outcome ++ codes "\n") ++ vector_behind outcome
-message_is name Done line other = absurd (line refl)
-message_is name (Store file) line other = absurd (let no = other in cc)
-message_is name outcome line other = refl
+-- an outcome that is no success and no fault of the store is reported by its words
+pub message_is : (command : Command) (outcome : Outcome) → (status_of outcome ≡ 0 → ⊥) → ((role : FileRole) → outcome ≡ Store role → ⊥) → message_of command outcome ≡ (words_of outcome ++ codes "\n") ++ vector_behind outcome
+message_is command Done fails other = absurd (fails refl)
+message_is command (Run end.Done) fails other = absurd (fails refl)
+message_is command (Store role) fails other = absurd (other role refl)
+message_is command outcome fails other = refl
 
--- a fault of the store is told with the name of the file
-pub store_message : (name : List ℕ) (outcome : Outcome) → is_store outcome ≡ true → message_of name outcome ≡ codes "store " ++ (name ++ 10 ∷ [])
-store_message name (Store file) is = refl
-store_message name outcome is = absurd (let no = is in cc)
+-- the line of an outcome was put, or a prefix of it
+pub reported : {T E : Type 0} (r : Result T E) (command : Command) (outcome : Outcome) (err : ErrorOutput) → Tells err.before err.after (Puts r (message_of command outcome)) → HasCause err.faults_before err.faults_after r → Reports command outcome err
+reported (Ok x) command outcome err told cause = inl told
+reported (Err e) command outcome err told cause = inr (cause.failed, told)
+
+-- of a success nothing is reported
+pub nothing_said : (command : Command) (outcome : Outcome) → status_of outcome ≡ 0 → message_of command outcome ≡ []
+nothing_said command Done zero = refl
+nothing_said command (Run end.Done) zero = refl
+nothing_said command outcome zero = absurd (omega arith)
+
+pub nothing_reported : (command : Command) (outcome : Outcome) (was : Option (List ℕ)) (count : ℕ) → status_of outcome ≡ 0 → Reports command outcome (record { before = was; after = was; faults_before = count; faults_after = count })
+nothing_reported command outcome was count zero = inl (Tells-same was _ (λ old. sym (ap (λ text. old ++ text) (nothing_said command outcome zero) ∙ append-nil old)))
 
 -- what was put first stands before what is put behind it
 pub puts_behind : {T E : Type 0} (r : Result T E) (line more x y z : List ℕ) → y ≡ x ++ line → Puts r more y z → Puts r (line ++ more) x z

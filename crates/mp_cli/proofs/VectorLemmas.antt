@@ -1,11 +1,10 @@
 -- Vectors from their texts: their numbers, whether all are 0, and what their sums show.
-use Rattle.std.proofs.Common.{◌≡◌, ◌≤◌, ◌<◌, ◌-◌, ◌*◌, ℕ, zero, suc, ℤ, pos, negsuc, Bool, true, false, List, [], ◌∷◌, length, map, sum_by, codes, unsigned_abs, Ok, inl, inr, refl, sym, ◌∙◌, ap, subst, arith, if◌then◌else◌, ◌↔◌, IsTrue}
+use Rattle.std.proofs.Common.{◌≡◌, ◌≤◌, ◌<◌, ◌-◌, ◌*◌, ℕ, zero, suc, ℤ, pos, negsuc, Bool, true, false, List, [], ◌∷◌, length, map, sum_by, codes, unsigned_abs, inl, inr, refl, sym, ◌∙◌, ap, subst, arith, if◌then◌else◌, ◌↔◌, IsTrue}
 use Rattle.std.specs.Prelude.{slice_index, int_lt}
 use Rattle.std.specs.List.{AllByRecursion}
 use Rattle.std.proofs.lemmas.Int.{ints}
 use Rattle.std.proofs.lemmas.List.{length-map}
 use Rattle.std.proofs.lemmas.List.Elements.{recursion_from_All, All-from_recursion}
-use Rattle.mp_edge.proofs.Told.{OfFile-weaker}
 use Rattle.mp_laws.proofs.Lists.{all_of}
 use Rattle.mp_laws.proofs.Sums.{sum_by-same_at, sum_by-zero, terms_le}
 use Rattle.mp_laws.proofs.Tied.{overload, tight}
@@ -13,10 +12,12 @@ use Rattle.mp_press.proofs.Writes.{numbers_by_all}
 use Rattle.mp_model.specs.Load.{IsVector, ShowsOverload, IsTight, load, capacity}
 use Rattle.mp_model.specs.Network.{Network, movement_numbers, entry}
 use Rattle.mp_model.specs.NetworkRules.{IsNetwork}
-use Rattle.mp_cert.specs.TextMeaning.{vector_meaning}
 use Rattle.mp_cert.specs.declared.types.Weighed.{Weighed}
 use Rattle.mp_cli.specs.Outcomes.{word_of}
-use Rattle.mp_cli.specs.Others.{Files, OfVector, numbers, IsZero, IsWeak, IsRefuting, sums_line}
+use Rattle.mp_cli.specs.declared.outcome.Outcome.{Outcome}
+use Rattle.mp_cli.specs.Ports.{Ports, Answers}
+use Rattle.mp_cli.specs.Refuting.{IsZero, IsWeak, SpeaksAgainst, sums_line}
+use Rattle.mp_cli.specs.Verdicts.{numbers}
 
 at_place : (p : List ℤ) → AllByRecursion (λ n. n ≡ pos 0) p → (i : ℕ) → slice_index (numbers p) i ≡ 0
 at_place [] zeros i = refl
@@ -59,15 +60,12 @@ is_vector net p size some =
     from zero none = absurd (some (zero_sum net p size none))
     from (suc n) is = omega arith
 
--- a test that fails says what is not so
+-- a test says what is so, and where it fails what is not
+pub is_zeros : (b : Bool) (p q : List ℤ) → b ≡ true → (IsTrue b ↔ IsZero q) → q ≡ p → IsZero p
+is_zeros b p q holds tells same = subst IsZero same (tells.0 holds)
+
 pub not_zero : (b : Bool) (p q : List ℤ) → b ≡ false → (IsTrue b ↔ IsZero q) → q ≡ p → IsZero p → ⊥
 not_zero b p q fails tells same zeros = let no = tells.1 (subst IsZero (sym same) zeros) in (let wrong = sym no ∙ fails in cc)
-
--- a fact of the vector that was read
-pub of_vector : (net : Network) (files : Files) (other : List ℕ) (p : List ℤ) (P : List ℤ → Type 0) → OfVector net files other (λ q. q ≡ p) → P p → OfVector net files other P
-of_vector net files other p P opened is =
-    OfFile-weaker files other (λ bytes. (q : List ℤ) × (vector_meaning net bytes ≡ Ok q) × (q ≡ p)) (λ bytes. (q : List ℤ) × (vector_meaning net bytes ≡ Ok q) × P q)
-    (λ bytes o. (o.0, o.1, subst P (sym o.2) is)) opened
 
 -- the sums of a vector
 abbrev brought : Network → List ℤ → ℕ
@@ -93,9 +91,9 @@ line_is word net p sums named loads serves =
     ap (λ w. sums_line w (unsigned_abs sums.load) (unsigned_abs sums.served)) named ∙ ap (λ x. sums_line word (unsigned_abs x) (unsigned_abs sums.served)) loads ∙ ap (λ y. sums_line word (brought net p) (unsigned_abs y)) serves
 
 -- a vector whose load is at least what is served speaks against the network, and is told as it does
-pub refuting : (net : Network) (p : List ℤ) (sums : Weighed) (IsWritten : List ℕ → Type 0) → IsNetwork net → IsVector net (numbers p) → sums.load ≡ pos (brought net p) → sums.served ≡ pos (served net p) → int_lt sums.load sums.served ≡ false
-    → IsWritten (sums_line (word_of sums) (unsigned_abs sums.load) (unsigned_abs sums.served)) → IsRefuting net (numbers p) IsWritten
-refuting net p sums IsWritten network vector loads serves most written = by (int_lt sums.served sums.load) refl
+pub refuting : (net : Network) (p : List ℤ) (sums : Weighed) (outcome : Outcome) (ports : Ports) → IsNetwork net → IsVector net (numbers p) → sums.load ≡ pos (brought net p) → sums.served ≡ pos (served net p) → int_lt sums.load sums.served ≡ false
+    → Answers outcome ports (sums_line (word_of sums) (unsigned_abs sums.load) (unsigned_abs sums.served)) → SpeaksAgainst outcome net ports (numbers p)
+refuting net p sums outcome ports network vector loads serves most answers = by (int_lt sums.served sums.load) refl
   where
     in_numbers : int_lt sums.served sums.load ≡ int_lt (pos (served net p)) (pos (brought net p))
     in_numbers = ap (λ x. int_lt x sums.load) serves ∙ ap (λ y. int_lt (pos (served net p)) y) loads
@@ -103,13 +101,13 @@ refuting net p sums IsWritten network vector loads serves most written = by (int
     at_least : served net p ≤ brought net p
     at_least = above_from (brought net p) (served net p) (sym (ap (λ x. int_lt x sums.served) loads ∙ ap (λ y. int_lt (pos (brought net p)) y) serves) ∙ most)
 
-    by : (above : Bool) → int_lt sums.served sums.load ≡ above → IsRefuting net (numbers p) IsWritten
+    by : (above : Bool) → int_lt sums.served sums.load ≡ above → SpeaksAgainst outcome net ports (numbers p)
     by true is =
         let shows : ShowsOverload net (numbers p) = record { vector = vector; above = below_from (served net p) (brought net p) (sym in_numbers ∙ is) } in
         let named : word_of sums ≡ codes "overloaded" = ap (λ (b : Bool). if b then codes "overloaded" else codes "tight") is in
-        inl (record { shows = shows; none = overload net network (numbers p, shows); written = subst IsWritten (line_is (codes "overloaded") net p sums named loads serves) written })
+        inl (record { shows = shows; none = overload net network (numbers p, shows); answers = subst (Answers outcome ports) (line_is (codes "overloaded") net p sums named loads serves) answers })
     by false is =
         let most_served : brought net p ≤ served net p = above_from (served net p) (brought net p) (sym in_numbers ∙ is) in
         let even : IsTight net (numbers p) = record { vector = vector; equal = omega (arith, at_least, most_served) } in
         let named : word_of sums ≡ codes "tight" = ap (λ (b : Bool). if b then codes "overloaded" else codes "tight") is in
-        inr (record { tight = even; none = tight net network (numbers p) even; written = subst IsWritten (line_is (codes "tight") net p sums named loads serves) written })
+        inr (record { tight = even; none = tight net network (numbers p) even; answers = subst (Answers outcome ports) (line_is (codes "tight") net p sums named loads serves) answers })

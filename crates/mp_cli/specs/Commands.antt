@@ -2,8 +2,36 @@
 use Rattle.std.specs.Prelude.{◌≤◌, ◌<◌, ◌^◌, ℕ, zero, suc, Bool, if◌then◌else◌, List, [], ◌∷◌, codes, nat_eq, Option, Some, None}
 use Rattle.std.specs.Cmp.Lexicographic.{pointwise}
 use Rattle.mp_model.specs.Stream.{count_of}
-use Rattle.mp_cli.specs.declared.command.Command.{Command}
-use Rattle.mp_cli.specs.declared.command.Command.TheVariants.{Run, RunWith, Show, Certify, Check, Refute, Audit, Demo, Scale, Unknown}
+use Rattle.mp_cli.specs.declared.command.Command.{Command as SaidCommand}
+use Rattle.mp_cli.specs.declared.command.Command.TheVariants as said
+use Rattle.mp_cli.specs.declared.outcome.FileRole.{FileRole}
+use Rattle.mp_cli.specs.declared.outcome.FileRole.TheVariants.{Net, Other}
+
+-- A command has the names of its files, and its numbers.
+pub data Command : Type 0 where
+  Run : List ℕ → Command
+  RunWith : List ℕ → List ℕ → Command
+  Show : List ℕ → Command
+  Certify : List ℕ → Command
+  Check : List ℕ → List ℕ → Command
+  Refute : List ℕ → List ℕ → Command
+  Audit : List ℕ → Command
+  Demo : ℕ → Command
+  Scale : List ℕ → ℕ → Command
+  Unknown : Command
+
+-- This is the command of the code, with the names in place of what points to them.
+abbrev pub asked : SaidCommand → Command
+asked (said.Run net) = Run net.now
+asked (said.RunWith net cert) = RunWith net.now cert.now
+asked (said.Show net) = Show net.now
+asked (said.Certify net) = Certify net.now
+asked (said.Check net cert) = Check net.now cert.now
+asked (said.Refute net vector) = Refute net.now vector.now
+asked (said.Audit net) = Audit net.now
+asked (said.Demo n) = Demo n
+asked (said.Scale net d) = Scale net.now d
+asked said.Unknown = Unknown
 
 -- The word is the one that is listed.
 abbrev pub is_word : List ℕ → List ℕ → Bool
@@ -19,51 +47,56 @@ abbrev pub demo_of : List ℕ → Command
 demo_of number = demo_with (count_of number)
 
 -- A scaling is asked for by a count of at least 1.
-abbrev pub scale_with : Option ℕ → Command
-scale_with (Some zero) = Unknown
-scale_with (Some (suc n)) = Scale (suc n)
-scale_with None = Unknown
+abbrev pub scale_with : List ℕ → Option ℕ → Command
+scale_with net (Some zero) = Unknown
+scale_with net (Some (suc n)) = Scale net (suc n)
+scale_with net None = Unknown
 
--- This is the scaling to a denominator.
-abbrev pub scale_of : List ℕ → Command
-scale_of denominator = scale_with (count_of denominator)
+-- This is the scaling of a network to a denominator.
+abbrev pub scale_of : List ℕ → List ℕ → Command
+scale_of net denominator = scale_with net (count_of denominator)
 
 -- A word asks for a command with the name of a network, or with a number.
-unfoldable pub command_on_net : List ℕ → List ℕ → Command
-command_on_net word name =
-    if is_word word (codes "run") then Run
-    else if is_word word (codes "show") then Show
-    else if is_word word (codes "certify") then Certify
-    else if is_word word (codes "audit") then Audit
-    else if is_word word (codes "demo") then demo_of name
+unfoldable pub command_on_one : List ℕ → List ℕ → Command
+command_on_one word net =
+    if is_word word (codes "run") then Run net
+    else if is_word word (codes "show") then Show net
+    else if is_word word (codes "certify") then Certify net
+    else if is_word word (codes "audit") then Audit net
+    else if is_word word (codes "demo") then demo_of net
     else Unknown
 
 -- A word asks for a command with the name of a network and that of another file, or with a number.
-unfoldable pub command_on_both : List ℕ → List ℕ → Command
-command_on_both word other =
-    if is_word word (codes "runwith") then RunWith
-    else if is_word word (codes "check") then Check
-    else if is_word word (codes "refute") then Refute
-    else if is_word word (codes "scale") then scale_of other
+unfoldable pub command_on_two : List ℕ → List ℕ → List ℕ → Command
+command_on_two word net other =
+    if is_word word (codes "runwith") then RunWith net other
+    else if is_word word (codes "check") then Check net other
+    else if is_word word (codes "refute") then Refute net other
+    else if is_word word (codes "scale") then scale_of net other
     else Unknown
 
 -- The listed words are a word with a name or a number, or a word with the name of a network and another name or a number.
 abbrev pub command_of : List (List ℕ) → Command
-command_of (word ∷ name ∷ []) = command_on_net word name
-command_of (word ∷ name ∷ other ∷ []) = command_on_both word other
+command_of (word ∷ net ∷ []) = command_on_one word net
+command_of (word ∷ net ∷ other ∷ []) = command_on_two word net other
 command_of words = Unknown
-
--- This is the name of the network file.
-abbrev pub name_of : List (List ℕ) → List ℕ
-name_of (word ∷ name ∷ words) = name
-name_of words = []
-
--- This is the name of the other file.
-abbrev pub other_of : List (List ℕ) → List ℕ
-other_of (word ∷ name ∷ other ∷ words) = other
-other_of words = []
 
 -- The denominator of a scaling is at least 1 and has at most 9 digits.
 abbrev pub HasDenominator : Command → Type 0
-HasDenominator (Scale d) = (1 ≤ d) × (d < 10 ^ 9)
+HasDenominator (Scale net d) = (1 ≤ d) × (d < 10 ^ 9)
 HasDenominator command = Unit {0}
+
+-- This is the name of a file of the command, and nothing where it has none.
+abbrev pub file_of : Command → FileRole → List ℕ
+file_of (Run net) Net = net
+file_of (RunWith net cert) Net = net
+file_of (RunWith net cert) Other = cert
+file_of (Show net) Net = net
+file_of (Certify net) Net = net
+file_of (Check net cert) Net = net
+file_of (Check net cert) Other = cert
+file_of (Refute net vector) Net = net
+file_of (Refute net vector) Other = vector
+file_of (Audit net) Net = net
+file_of (Scale net d) Net = net
+file_of command role = []

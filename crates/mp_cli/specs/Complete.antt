@@ -1,47 +1,44 @@
 -- When a command must do what was asked.
-use Rattle.std.specs.Prelude.{◌≡◌, ◌≤◌, ◌⊎◌, ◌^◌, ℕ, ℤ, List, [], length, Option, Some, Ok}
+use Rattle.std.specs.Prelude.{◌≡◌, ◌≤◌, ◌⊎◌, ◌^◌, ℕ, ℤ, List, [], length, Option, Result, Some, Ok}
 use Rattle.mp_edge.specs.Outside.{file_named}
 use Rattle.mp_model.specs.Arrivals.{IsPermitted}
+use Rattle.mp_model.specs.Bounds.{AreBounds}
 use Rattle.mp_model.specs.Certificate.{Cert}
 use Rattle.mp_model.specs.Load.{ShowsOverload, IsTight}
 use Rattle.mp_model.specs.Network.{Network}
 use Rattle.mp_model.specs.Slack.{IsGreatestSlack}
-use Rattle.mp_model.specs.Bounds.{AreBounds}
-use Rattle.mp_model.specs.WholeLog.{IsWholeLog}
 use Rattle.mp_model.specs.Stream.{LineKind, arrivals_of_kinds}
-use Rattle.mp_gen.specs.DemoNetwork.{demo_network}
-use Rattle.mp_trial.specs.Search.{scaled, Found}
+use Rattle.mp_model.specs.WholeLog.{IsWholeLog}
 use Rattle.mp_cert.specs.Checking.{check_outcome}
 use Rattle.mp_cert.specs.TextMeaning.{cert_meaning, vector_meaning}
 use Rattle.mp_cert.specs.Weighing.{weighed}
-use Rattle.mp_cert.specs.declared.types.Weighed.{Weighed}
+use Rattle.mp_gen.specs.DemoNetwork.{demo_network}
+use Rattle.mp_netfile.specs.Meaning.{file_meaning}
 use Rattle.mp_num.specs.Fraction.{Fraction}
+use Rattle.mp_run.specs.Running.{StartsWith, IsAboveAt}
+use Rattle.mp_trial.specs.Search.{scaled, Found}
 use Rattle.mp_verdict.specs.Stated.{Reached}
 use Rattle.mp_verdict.specs.Verdict.{verdict, Admitted}
-use Rattle.mp_netfile.specs.Meaning.{file_meaning}
-use Rattle.mp_run.specs.Running.{StartsWith, IsAboveAt}
-use Rattle.mp_cli.specs.declared.command.Command.{Command}
-use Rattle.mp_cli.specs.declared.command.Command.TheVariants.{Run, RunWith, Show, Certify, Check, Refute, Audit, Demo, Scale, Unknown}
-use Rattle.mp_cli.specs.Commands.{command_of, name_of, other_of}
-use Rattle.mp_cli.specs.Others.{Files, numbers}
-use Rattle.mp_cli.specs.Runs.{HasBounds}
+use Rattle.mp_cli.specs.Commands.{Command, Run, RunWith, Show, Certify, Check, Refute, Audit, Demo, Scale, Unknown}
+use Rattle.mp_cli.specs.Ports.{Files}
+use Rattle.mp_cli.specs.Refuting.{IsFormed}
+use Rattle.mp_cli.specs.Sessions.{HasBounds}
+use Rattle.mp_cli.specs.Verdicts.{numbers}
 
--- The files are told, and one has that name.
-pub record IsThere (files : Files) (name : List ℕ) : Type 0 where
+-- The files are told, one has that name, its bytes mean a value, and the fact is true of it.
+pub record IsGoodFile {X E : Type 0} (meaning : List ℕ → Result X E) (files : Files) (name : List ℕ) (P : X → Type 0) : Type 0 where
   pub all : List (List ℕ × List ℕ)
   pub told : files ≡ Some all
   pub bytes : List ℕ
   pub there : file_named all name ≡ Some bytes
+  pub value : X
+  pub means : meaning bytes ≡ Ok value
+  pub is : P value
 
--- One of that name is a file of the network.
-pub record IsGoodFile (files : Files) (name : List ℕ) (net : Network) : Type 0 where
-  pub file : IsThere files name
-  pub accepted : file_meaning file.bytes ≡ Ok net
-
--- This is the network of the demonstration that a command asks for, or that of a file that is there.
-abbrev pub IsGiven : Command → Files → List ℕ → Network → Type 0
-IsGiven (Demo n) files name net = net ≡ demo_network n
-IsGiven command files name net = IsGoodFile files name net
+-- The files are told, and one has that name and at most 1,048,576 bytes, which mean a value of which the fact is true.
+pub record IsGoodText {X E : Type 0} (meaning : List ℕ → Result X E) (files : Files) (name : List ℕ) (P : X → Type 0) : Type 0 where
+  pub file : IsGoodFile meaning files name P
+  pub few : length file.bytes ≤ 1048576
 
 -- The input is told, has at most 2^48 lines, each of them skipped or of arrivals, and these arrivals are permitted.
 pub record IsGoodStream (net : Network) (left : Option (List ℕ)) : Type 0 where
@@ -68,70 +65,47 @@ pub record IsGoodLog (net : Network) (left : Option (List ℕ)) : Type 0 where
   pub told : left ≡ Some text
   pub whole : (num den : ℕ) (bounds : List ℕ) → IsGreatestSlack net num den → AreBounds net num den bounds → IsWholeLog net num den bounds text
 
--- The other file has at most 1,048,576 bytes, is the text of a certificate, and the check of it ends well.
-pub record IsGoodCert (net : Network) (files : Files) (other : List ℕ) : Type 0 where
-  pub file : IsThere files other
-  pub few : length file.bytes ≤ 1048576
-  pub cert : Cert
-  pub read : cert_meaning net file.bytes ≡ Ok cert
-  pub holds : check_outcome net cert ≡ Ok tt
+-- No calculation of the check of a certificate or of its bounds exceeds 128 bits, the certificate keeps all rules, and there is room for the bounds.
+pub record IsRunnableCert (net : Network) (cert : Cert) : Type 0 where
+  pub checked : check_outcome net cert ≡ Ok tt
+  pub bounds : HasBounds net cert
 
--- The other file has at most 1,048,576 bytes, is the text of a vector that shows an overload or is tight, and its sums don't pass 128 bits.
-pub record IsGoodVector (net : Network) (files : Files) (other : List ℕ) : Type 0 where
-  pub file : IsThere files other
-  pub few : length file.bytes ≤ 1048576
-  pub p : List ℤ
-  pub read : vector_meaning net file.bytes ≡ Ok p
-  pub sums : Weighed
-  pub formed : weighed net p ≡ Some sums
+-- No calculation of the sums of a vector exceeds 128 bits, and it shows an overload or is tight.
+pub record IsGoodVector (net : Network) (p : List ℤ) : Type 0 where
+  pub formed : IsFormed net p
   pub shows : ShowsOverload net (numbers p) ⊎ IsTight net (numbers p)
 
--- The stated calculation of the verdict admits the network: nothing passes 128 bits, and the greatest slack is above 0.
+-- The stated calculation of the verdict admits the network: nothing exceeds 128 bits, and the greatest slack is above 0.
 pub record IsAdmittable (net : Network) : Type 0 where
   pub cert : Cert
   pub vector : List ℤ
   pub slack : Fraction
   pub reached : verdict net (weighed net) ≡ Reached (Admitted cert vector slack)
 
--- The network is admitted, the check of its certificate passes nothing, and the bounds are found and have room.
+-- The network is admitted, and a stream can be run under its certificate.
 pub record IsRunnable (net : Network) : Type 0 where
   pub admitted : IsAdmittable net
-  pub checked : check_outcome net admitted.cert ≡ Ok tt
-  pub bounds : HasBounds net admitted.cert
+  pub under : IsRunnableCert net admitted.cert
 
--- The other file is a certificate that is accepted, and its bounds are found and have room.
-pub record IsRunnableWith (net : Network) (files : Files) (other : List ℕ) : Type 0 where
-  pub given : IsGoodCert net files other
-  pub bounds : HasBounds net given.cert
+-- The files of a command are good, a stream can be run, and the fact is true of the network.
+abbrev pub CanRun : Command → Files → (Network → Type 0) → Type 0
+CanRun (Run net) files P = IsGoodFile file_meaning files net (λ n. IsRunnable n × P n)
+CanRun (RunWith net cert) files P = IsGoodFile file_meaning files net (λ n. IsGoodText (cert_meaning n) files cert (IsRunnableCert n) × P n)
+CanRun command files P = ⊥
 
--- A command can run a stream on the network.
-abbrev pub CanRun : Command → Network → Files → List ℕ → Type 0
-CanRun Run net files other = IsRunnable net
-CanRun RunWith net files other = IsRunnableWith net files other
-CanRun command net files other = ⊥
+-- The files of a command are good, and so is what is to come from the input.
+abbrev pub IsGood : Command → Files → Option (List ℕ) → Type 0
+IsGood (Run net) files left = CanRun (Run net) files (λ n. IsGoodStream n left)
+IsGood (RunWith net cert) files left = CanRun (RunWith net cert) files (λ n. IsGoodStream n left)
+IsGood (Show net) files left = IsGoodFile file_meaning files net (λ n. Unit {0})
+IsGood (Certify net) files left = IsGoodFile file_meaning files net IsAdmittable
+IsGood (Check net cert) files left = IsGoodFile file_meaning files net (λ n. IsGoodText (cert_meaning n) files cert (λ c. check_outcome n c ≡ Ok tt))
+IsGood (Refute net vector) files left = IsGoodFile file_meaning files net (λ n. IsGoodText (vector_meaning n) files vector (IsGoodVector n))
+IsGood (Audit net) files left = IsGoodFile file_meaning files net (λ n. IsRunnable n × IsGoodLog n left)
+IsGood (Demo n) files left = IsRunnable (demo_network n)
+IsGood (Scale net d) files left = IsGoodFile file_meaning files net (λ n. (cert : Cert) × (scaled n d ≡ Found cert))
+IsGood Unknown files left = ⊥
 
--- What a command is given beside the network is good.
-abbrev pub GoodFor : Command → Network → Files → List ℕ → Option (List ℕ) → Type 0
-GoodFor Run net files other left = CanRun Run net files other × IsGoodStream net left
-GoodFor RunWith net files other left = CanRun RunWith net files other × IsGoodStream net left
-GoodFor Show net files other left = Unit {0}
-GoodFor Certify net files other left = IsAdmittable net
-GoodFor Check net files other left = IsGoodCert net files other
-GoodFor Refute net files other left = IsGoodVector net files other
-GoodFor Audit net files other left = IsRunnable net × IsGoodLog net left
-GoodFor (Demo n) net files other left = IsRunnable net
-GoodFor (Scale d) net files other left = (cert : Cert) × (scaled net d ≡ Found cert)
-GoodFor Unknown net files other left = ⊥
-
--- The words are listed, the network is given, and what the command is given beside it is good.
-pub record IsGood (words : List (List ℕ)) (files : Files) (left : Option (List ℕ)) : Type 0 where
-  pub net : Network
-  pub is : IsGiven (command_of words) files (name_of words) net
-  pub given : GoodFor (command_of words) net files (other_of words) left
-
--- The words ask for a run, the network file is one of a network that can be run, and the stream is above a bucket.
-pub record IsExcessive (words : List (List ℕ)) (files : Files) (left : Option (List ℕ)) : Type 0 where
-  pub net : Network
-  pub is : IsGiven (command_of words) files (name_of words) net
-  pub can : CanRun (command_of words) net files (other_of words)
-  pub stream : IsExcessiveStream net left
+-- The files of a command are good, and the stream is above a bucket.
+abbrev pub IsExcessive : Command → Files → Option (List ℕ) → Type 0
+IsExcessive command files left = CanRun command files (λ n. IsExcessiveStream n left)

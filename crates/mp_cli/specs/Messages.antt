@@ -5,15 +5,18 @@ use Rattle.mp_net.specs.declared.fault.NetRule.TheVariants.{TooLong, BadToml, Un
 use Rattle.mp_net.specs.declared.fault.Section.{Section}
 use Rattle.mp_net.specs.declared.fault.Section.TheVariants.{Top, Link, Movement, Junction}
 use Rattle.mp_net.specs.declared.fault.Spot.{Spot}
-use Rattle.mp_cert.specs.declared.types.CertFault.{CertFault}
-use Rattle.mp_cert.specs.declared.types.CertFault.TheVariants.{D, E, H, Whole, Part, Mass, Serve, Balance, Overflow}
 use Rattle.mp_cert.specs.Texts.{vector_text}
 use Rattle.mp_flow.specs.declared.network.Place.{Place}
 use Rattle.mp_flow.specs.declared.network.Place.TheVariants as at
+use Rattle.mp_run.specs.declared.run.RunEnd.{RunEnd}
+use Rattle.mp_run.specs.declared.run.RunEnd.TheVariants as run
+use Rattle.mp_cli.specs.declared.outcome.CertRule.{CertRule}
+use Rattle.mp_cli.specs.declared.outcome.CertRule.TheVariants.{D, E, H, Whole, Part, Mass, Serve, Balance}
 use Rattle.mp_cli.specs.declared.outcome.TextKind.{TextKind}
 use Rattle.mp_cli.specs.declared.outcome.TextKind.TheVariants.{Certificate, Vector}
 use Rattle.mp_cli.specs.declared.outcome.Outcome.{Outcome}
 use Rattle.mp_cli.specs.declared.outcome.Outcome.TheVariants as end
+use Rattle.mp_cli.specs.Commands.{Command, file_of}
 
 -- This is the number of a rule of the network file.
 abbrev pub rule_number : NetRule → ℕ
@@ -49,17 +52,16 @@ abbrev pub kind_text : TextKind → List ℕ
 kind_text Certificate = codes "certificate text "
 kind_text Vector = codes "vector text "
 
--- This is the rule that a certificate breaks, with the number of the movement or junction, or of the junction and the stage.
-abbrev pub fault_text : CertFault → List ℕ
-fault_text D = codes "d"
-fault_text E = codes "e"
-fault_text (H k) = codes "h " ++ decimal k
-fault_text (Whole j) = codes "whole " ++ decimal j
-fault_text (Part j s) = (codes "part " ++ decimal j) ++ (codes " " ++ decimal s)
-fault_text (Mass j) = codes "mass " ++ decimal j
-fault_text (Serve k) = codes "serve " ++ decimal k
-fault_text (Balance k) = codes "balance " ++ decimal k
-fault_text Overflow = []
+-- This is a rule of a certificate, with the number of the movement or junction, or of the junction and the stage.
+abbrev pub cert_rule_text : CertRule → List ℕ
+cert_rule_text D = codes "d"
+cert_rule_text E = codes "e"
+cert_rule_text (H k) = codes "h " ++ decimal k
+cert_rule_text (Whole j) = codes "whole " ++ decimal j
+cert_rule_text (Part j s) = (codes "part " ++ decimal j) ++ (codes " " ++ decimal s)
+cert_rule_text (Mass j) = codes "mass " ++ decimal j
+cert_rule_text (Serve k) = codes "serve " ++ decimal k
+cert_rule_text (Balance k) = codes "balance " ++ decimal k
 
 -- This is the place of a calculation that passes 128 bits, with the number of the junction.
 abbrev pub place_text : Place → List ℕ
@@ -76,6 +78,16 @@ place_text at.Room = codes "room"
 abbrev pub line_text : ℕ → List ℕ
 line_text n = codes "line " ++ decimal n
 
+-- These are the words of a run's end, and none where it was done.
+abbrev pub run_words : RunEnd → List ℕ
+run_words run.Done = []
+run_words (run.Long n) = line_text n ++ codes " long"
+run_words (run.Grammar n) = line_text n ++ codes " grammar"
+run_words (run.Above n p l) = (line_text n ++ (codes " above period " ++ decimal p)) ++ (codes " link " ++ decimal l)
+run_words run.LineLimit = codes "lines"
+run_words run.Read = codes "read"
+run_words run.Write = codes "write"
+
 -- These are the words of an outcome other than a fault of the store.
 abbrev pub words_of : Outcome → List ℕ
 words_of end.Words = codes "words"
@@ -84,17 +96,14 @@ words_of (end.LongText kind) = kind_text kind ++ codes "long"
 words_of (end.Text kind n) = kind_text kind ++ line_text n
 words_of (end.Critical against) = codes "network critical"
 words_of (end.Overloaded against) = codes "network overloaded"
-words_of (end.Certificate fault) = codes "certificate fails " ++ fault_text fault
+words_of (end.Certificate rule) = codes "certificate fails " ++ cert_rule_text rule
 words_of end.ZeroVector = codes "vector fails zero"
 words_of end.WeakVector = codes "vector fails weak"
 words_of end.NoCertificate = codes "scale none"
 words_of (end.Overflow place) = codes "overflow " ++ place_text place
 words_of (end.PivotLimit j) = codes "pivots " ++ decimal j
 words_of (end.SweepLimit e) = codes "sweeps " ++ decimal e
-words_of (end.Long n) = line_text n ++ codes " long"
-words_of (end.Grammar n) = line_text n ++ codes " grammar"
-words_of (end.Above n p l) = (line_text n ++ (codes " above period " ++ decimal p)) ++ (codes " link " ++ decimal l)
-words_of end.LineLimit = codes "lines"
+words_of (end.Run how) = run_words how
 words_of (end.Differs n) = codes "log differs " ++ line_text n
 words_of end.Read = codes "read"
 words_of end.Write = codes "write"
@@ -113,8 +122,9 @@ vector_behind (end.Critical against) = vector_text against.p
 vector_behind (end.Overloaded against) = vector_text against.p
 vector_behind outcome = []
 
--- This is what is told of an outcome, with the name of the file at a fault of the store: nothing where all was done.
-abbrev pub message_of : List ℕ → Outcome → List ℕ
-message_of name end.Done = []
-message_of name (end.Store file) = codes "store " ++ (name ++ 10 ∷ [])
-message_of name outcome = (words_of outcome ++ codes "\n") ++ vector_behind outcome
+-- This is what is reported of an outcome of a command, with the name of the file at a fault of the store: nothing where all was done.
+abbrev pub message_of : Command → Outcome → List ℕ
+message_of command end.Done = []
+message_of command (end.Run run.Done) = []
+message_of command (end.Store role) = codes "store " ++ (file_of command role ++ 10 ∷ [])
+message_of command outcome = (words_of outcome ++ codes "\n") ++ vector_behind outcome

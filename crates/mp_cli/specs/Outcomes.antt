@@ -1,5 +1,5 @@
 -- How what a call answers becomes an outcome, or a word of its line.
-use Rattle.std.specs.Prelude.{List, ℕ, codes, int_lt, if◌then◌else◌}
+use Rattle.std.specs.Prelude.{List, ℕ, codes, int_lt, if◌then◌else◌, Option, Some, None}
 use Rattle.mp_cert.specs.declared.types.CertFault.{CertFault}
 use Rattle.mp_cert.specs.declared.types.CertFault.TheVariants as fault
 use Rattle.mp_cert.specs.declared.types.Weighed.{Weighed}
@@ -10,25 +10,42 @@ use Rattle.mp_drift.specs.declared.session.OpenFault.{OpenFault}
 use Rattle.mp_drift.specs.declared.session.OpenFault.TheVariants as opening
 use Rattle.mp_scaled.specs.declared.fault.ScaleFault.{ScaleFault}
 use Rattle.mp_scaled.specs.declared.fault.ScaleFault.TheVariants as scaling
-use Rattle.mp_run.specs.declared.run.RunEnd.{RunEnd}
-use Rattle.mp_run.specs.declared.run.RunEnd.TheVariants as end
+use Rattle.mp_cli.specs.declared.outcome.CertRule.{CertRule}
+use Rattle.mp_cli.specs.declared.outcome.CertRule.TheVariants as rule
 use Rattle.mp_cli.specs.declared.outcome.Outcome.{Outcome}
-use Rattle.mp_cli.specs.declared.outcome.Outcome.TheVariants.{Done, Certificate, Overflow, PivotLimit, SweepLimit, Long, Grammar, Above, LineLimit, Read, Write, NoMemory}
+use Rattle.mp_cli.specs.declared.outcome.Outcome.TheVariants.{Certificate, Overflow, PivotLimit, SweepLimit, NoMemory}
 
--- This is the outcome of a run's end.
-abbrev pub outcome_of : RunEnd → Outcome
-outcome_of end.Done = Done
-outcome_of end.Read = Read
-outcome_of end.Write = Write
-outcome_of end.LineLimit = LineLimit
-outcome_of (end.Long n) = Long n
-outcome_of (end.Grammar n) = Grammar n
-outcome_of (end.Above n p l) = Above n p l
+-- This is the fault that names a rule.
+abbrev pub fault_of : CertRule → CertFault
+fault_of rule.D = fault.D
+fault_of rule.E = fault.E
+fault_of (rule.H k) = fault.H k
+fault_of (rule.Whole j) = fault.Whole j
+fault_of (rule.Part j s) = fault.Part j s
+fault_of (rule.Mass j) = fault.Mass j
+fault_of (rule.Serve k) = fault.Serve k
+fault_of (rule.Balance k) = fault.Balance k
+
+-- This is the rule that a fault names; an overflow names none.
+abbrev pub broken_rule : CertFault → Option CertRule
+broken_rule fault.D = Some rule.D
+broken_rule fault.E = Some rule.E
+broken_rule (fault.H k) = Some (rule.H k)
+broken_rule (fault.Whole j) = Some (rule.Whole j)
+broken_rule (fault.Part j s) = Some (rule.Part j s)
+broken_rule (fault.Mass j) = Some (rule.Mass j)
+broken_rule (fault.Serve k) = Some (rule.Serve k)
+broken_rule (fault.Balance k) = Some (rule.Balance k)
+broken_rule fault.Overflow = None
+
+-- This is the outcome of a certificate that breaks a rule, or whose check exceeds 128 bits.
+abbrev pub outcome_of_rule : Option CertRule → Outcome
+outcome_of_rule (Some rule) = Certificate rule
+outcome_of_rule None = Overflow at.Certificate
 
 -- This is the outcome of a certificate that is not accepted.
 abbrev pub outcome_of_fault : CertFault → Outcome
-outcome_of_fault fault.Overflow = Overflow at.Certificate
-outcome_of_fault broken = Certificate broken
+outcome_of_fault fault = outcome_of_rule (broken_rule fault)
 
 -- This is the outcome of a calculation that has no result.
 abbrev pub outcome_of_calculation : CalcFault → Outcome

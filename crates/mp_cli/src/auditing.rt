@@ -1,17 +1,17 @@
 //! The audit of a log.
-ghost use Rattle.std.specs.Prelude.{◌≡◌, ◌≤◌, ℕ, List};
+ghost use Rattle.std.specs.Prelude.{◌≡◌};
 ghost use Rattle.mp_edge.specs.Outside.{Rose, Tells, Puts, HasCause};
 ghost use Rattle.mp_model.specs.Certificate.{HasLengths};
 ghost use Rattle.mp_cert.specs.Views.{cert_of};
-ghost use Rattle.mp_cli.specs.Audits.{audit_line, AuditsSo};
-ghost use Rattle.mp_cli.specs.Ends.{Acts};
-ghost use Rattle.mp_cli.specs.Others.{Files};
+ghost use Rattle.mp_cli.specs.Auditing.{audit_line, Audits, AuditsUnder};
+ghost use Rattle.mp_cli.specs.Ports.{Files};
+ghost use Rattle.mp_cli.specs.Statuses.{status_of};
 
-use crate::command::Command;
+use crate::opening::open_net;
 use crate::outcome::Outcome;
 use crate::session::{admitted, open_session};
 use mp_cert::Cert;
-use mp_edge::{Failed, Sink, Source};
+use mp_edge::{Failed, Sink, Source, Store};
 use mp_log::{push_number, push_text};
 use mp_net::Net;
 use mp_run::AuditEnd;
@@ -39,9 +39,10 @@ fn audit_under<In: Source, Out: Sink>(
     out: &mut Out,
 ) -> Outcome
     requires { HasLengths net.now (cert_of cert.now) }
-    ensures so { AuditsSo result net.now (cert_of cert.now) (In.left input.old) (In.left input.new) (Out.held out.old) (Out.held out.new) }
-    ensures read { result ≡ Outcome.Read → Rose (In.faults input.old) (In.faults input.new) }
-    ensures write { result ≡ Outcome.Write → Rose (Out.faults out.old) (Out.faults out.new) }
+    ensures so { (files : Files) → AuditsUnder result net.now (cert_of cert.now) (record { files = files; input_before = In.left input.old; input_after = In.left input.new; output_before = Out.held out.old; output_after = Out.held out.new }) }
+    ensures unstored { ¬ (status_of result ≡ 2) }
+    ensures read { status_of result ≡ 10 → Rose (In.faults input.old) (In.faults input.new) }
+    ensures write { status_of result ≡ 11 → Rose (Out.faults out.old) (Out.faults out.new) }
 {
     let mut session = match open_session(alloc, net, cert) {
         Ok(session) => session,
@@ -60,18 +61,24 @@ fn audit_under<In: Source, Out: Sink>(
 }
 
 /// Certifies the network, and compares the input with its log under the greatest slack.
-pub fn audit<In: Source, Out: Sink>(
+pub fn audit<St: Store, In: Source, Out: Sink>(
     alloc: Global,
-    net: &Net,
+    name: &str,
+    store: &mut St,
     input: &mut In,
     out: &mut Out,
 ) -> Outcome
-    ensures acts { (files : Files) (other : List ℕ) → Acts result Command.Audit net.now files other (In.left input.old) (In.left input.new) (Out.held out.old) (Out.held out.new) }
-    ensures read { result ≡ Outcome.Read → Rose (In.faults input.old) (In.faults input.new) }
-    ensures write { result ≡ Outcome.Write → Rose (Out.faults out.old) (Out.faults out.new) }
+    ensures means { Audits result name.now (record { files = St.files store.old; input_before = In.left input.old; input_after = In.left input.new; output_before = Out.held out.old; output_after = Out.held out.new }) }
+    ensures store { status_of result ≡ 2 → Rose (St.faults store.old) (St.faults store.new) }
+    ensures read { status_of result ≡ 10 → Rose (In.faults input.old) (In.faults input.new) }
+    ensures write { status_of result ≡ 11 → Rose (Out.faults out.old) (Out.faults out.new) }
 {
-    match admitted(alloc, net) {
-        Ok(cert) => audit_under(alloc, net, &cert, input, out),
+    let net = match open_net(alloc, name, store) {
+        Ok(net) => net,
+        Err(outcome) => return outcome,
+    };
+    match admitted(alloc, &net) {
+        Ok(cert) => audit_under(alloc, &net, &cert, input, out),
         Err(outcome) => outcome,
     }
 }

@@ -1,30 +1,31 @@
 //! The words of the command line.
-ghost use Rattle.std.specs.Prelude.{◌≡◌, ℕ, map, string_bytes};
-ghost use Rattle.mp_cli.specs.Commands.{command_of, command_on_net, command_on_both, demo_of, scale_of, is_word, name_of, other_of, HasDenominator};
+ghost use Rattle.std.specs.Prelude.{◌≡◌, map, string_bytes};
+ghost use Rattle.mp_cli.specs.Commands.{asked, command_of, command_on_one, command_on_two, demo_of, scale_of, file_of, is_word, HasDenominator};
 
+use crate::outcome::FileRole;
 use mp_text::read_count;
 
-/// What the words ask for.
+/// What the words ask for, with the names of files and the numbers in them.
 #[derive(Clone, Copy, Debug, PartialEq, Eq)]
-pub enum Command {
+pub enum Command<'a> {
     /// `run NET`: the log of the stream's run, with the greatest slack.
-    Run,
+    Run { net: &'a str },
     /// `runwith NET CERT`: the same, with the slack of the certificate.
-    RunWith,
+    RunWith { net: &'a str, cert: &'a str },
     /// `show NET`: the network, as a file.
-    Show,
+    Show { net: &'a str },
     /// `certify NET`: the certificate of the greatest slack, or the vector that shows why there is none.
-    Certify,
+    Certify { net: &'a str },
     /// `check NET CERT`: whether the certificate holds for the network, with its slack.
-    Check,
+    Check { net: &'a str, cert: &'a str },
     /// `refute NET VECTOR`: the load and the capacity of a vector against the network.
-    Refute,
+    Refute { net: &'a str, vector: &'a str },
     /// `audit NET`: whether the input is a whole log of the network, or the first line that differs.
-    Audit,
+    Audit { net: &'a str },
     /// `demo N`: a long run on a network of the program's own, by its number of at most 9 digits.
     Demo(u64),
     /// `scale NET D`: the greatest certificate with the denominator D, of at most 9 digits.
-    Scale(u32),
+    Scale { net: &'a str, d: u32 },
     /// Words that are not listed.
     Unknown,
 }
@@ -37,9 +38,9 @@ fn is_word(word: &str, listed: &str) -> bool
 }
 
 // The demonstration of this number.
-fn demo_of(number: &str) -> Command
-    ensures value { result ≡ demo_of number.now }
-    ensures denominator { HasDenominator result }
+fn demo_of(number: &str) -> Command<'_>
+    ensures value { asked result ≡ demo_of number.now }
+    ensures denominator { HasDenominator (asked result) }
 {
     match read_count(number.as_bytes()) {
         Some(n) => Command::Demo(n),
@@ -48,84 +49,79 @@ fn demo_of(number: &str) -> Command
 }
 
 // The scaling to this denominator, which is at least 1.
-fn scale_of(denominator: &str) -> Command
-    ensures value { result ≡ scale_of denominator.now }
-    ensures denominator { HasDenominator result }
+fn scale_of<'a>(net: &'a str, denominator: &str) -> Command<'a>
+    ensures value { asked result ≡ scale_of net.now denominator.now }
+    ensures denominator { HasDenominator (asked result) }
 {
     match read_count(denominator.as_bytes()) {
         None | Some(0) => Command::Unknown,
-        Some(d) => Command::Scale(d as u32),
+        Some(d) => Command::Scale { net, d: d as u32 },
     }
 }
 
 // The command that a word asks for with the name of a network, or with a number.
-#[tactic(auto, unfolding(crate::specs::Commands::command_on_net))]
-fn command_on_net(word: &str, name: &str) -> Command
-    ensures value { result ≡ command_on_net word.now name.now }
-    ensures denominator { HasDenominator result }
+#[tactic(auto, unfolding(crate::specs::Commands::command_on_one))]
+fn command_on_one<'a>(word: &str, net: &'a str) -> Command<'a>
+    ensures value { asked result ≡ command_on_one word.now net.now }
+    ensures denominator { HasDenominator (asked result) }
 {
     if is_word(word, "run") {
-        Command::Run
+        Command::Run { net }
     } else if is_word(word, "show") {
-        Command::Show
+        Command::Show { net }
     } else if is_word(word, "certify") {
-        Command::Certify
+        Command::Certify { net }
     } else if is_word(word, "audit") {
-        Command::Audit
+        Command::Audit { net }
     } else if is_word(word, "demo") {
-        demo_of(name)
+        demo_of(net)
     } else {
         Command::Unknown
     }
 }
 
-// The command that a word asks for with the name of a network and the name of another file, or a number.
-#[tactic(auto, unfolding(crate::specs::Commands::command_on_both))]
-fn command_on_both(word: &str, other: &str) -> Command
-    ensures value { result ≡ command_on_both word.now other.now }
-    ensures denominator { HasDenominator result }
+// The command that a word asks for with the name of a network and that of another file, or a number.
+#[tactic(auto, unfolding(crate::specs::Commands::command_on_two))]
+fn command_on_two<'a>(word: &str, net: &'a str, other: &'a str) -> Command<'a>
+    ensures value { asked result ≡ command_on_two word.now net.now other.now }
+    ensures denominator { HasDenominator (asked result) }
 {
     if is_word(word, "runwith") {
-        Command::RunWith
+        Command::RunWith { net, cert: other }
     } else if is_word(word, "check") {
-        Command::Check
+        Command::Check { net, cert: other }
     } else if is_word(word, "refute") {
-        Command::Refute
+        Command::Refute { net, vector: other }
     } else if is_word(word, "scale") {
-        scale_of(other)
+        scale_of(net, other)
     } else {
         Command::Unknown
     }
 }
 
 /// The command of the words.
-pub fn command_of(words: &[String]) -> Command
-    ensures value { result ≡ command_of (map string_bytes words.now) }
-    ensures denominator { HasDenominator result }
+pub fn command_of(words: &[String]) -> Command<'_>
+    ensures value { asked result ≡ command_of (map string_bytes words.now) }
+    ensures denominator { HasDenominator (asked result) }
 {
     match words {
-        [word, name] => command_on_net(word.as_str(), name.as_str()),
-        [word, _, other] => command_on_both(word.as_str(), other.as_str()),
+        [word, net] => command_on_one(word.as_str(), net.as_str()),
+        [word, net, other] => command_on_two(word.as_str(), net.as_str(), other.as_str()),
         _ => Command::Unknown,
     }
 }
 
-/// The name of the network file, and nothing where the words have none.
-pub fn name_of(words: &[String]) -> &str
-    ensures { result.now ≡ name_of (map string_bytes words.now) }
+/// The name of a file of the command, and nothing where it has none.
+pub fn file_of<'a>(command: Command<'a>, role: FileRole) -> &'a str
+    ensures { result.now ≡ file_of (asked command.entry) role }
 {
-    match words {
-        [_, name, ..] => name.as_str(),
-        _ => "",
-    }
-}
-
-/// The name of the other file, and nothing where the words have none.
-pub fn other_of(words: &[String]) -> &str
-    ensures { result.now ≡ other_of (map string_bytes words.now) }
-{
-    match words {
-        [_, _, other, ..] => other.as_str(),
+    match (role, command) {
+        (FileRole::Other, Command::RunWith { cert, .. } | Command::Check { cert, .. }) => cert,
+        (FileRole::Other, Command::Refute { vector, .. }) => vector,
+        (FileRole::Net, Command::Run { net } | Command::Show { net }) => net,
+        (FileRole::Net, Command::Certify { net } | Command::Audit { net }) => net,
+        (FileRole::Net, Command::RunWith { net, .. } | Command::Check { net, .. }) => net,
+        (FileRole::Net, Command::Refute { net, .. } | Command::Scale { net, .. }) => net,
         _ => "",
     }
 }

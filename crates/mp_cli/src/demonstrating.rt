@@ -4,11 +4,10 @@ ghost use Rattle.mp_edge.specs.Outside.{Rose};
 ghost use Rattle.mp_model.specs.Certificate.{HasLengths};
 ghost use Rattle.mp_cert.specs.Views.{cert_of};
 ghost use Rattle.mp_gen.specs.DemoNetwork.{demo_network};
-ghost use Rattle.mp_cli.specs.Audits.{ShowsSo};
-ghost use Rattle.mp_cli.specs.Ends.{Acts};
-ghost use Rattle.mp_cli.specs.Others.{Files};
+ghost use Rattle.mp_cli.specs.Demonstrating.{Demonstrates, ShowsUnder};
+ghost use Rattle.mp_cli.specs.Ports.{Files};
+ghost use Rattle.mp_cli.specs.Statuses.{status_of};
 
-use crate::command::Command;
 use crate::outcome::Outcome;
 use crate::session::{admitted, open_session};
 use mp_cert::Cert;
@@ -21,8 +20,10 @@ use std::alloc::Global;
 fn show_under<Out: Sink>(alloc: Global, net: &Net, n: u64, cert: &Cert, out: &mut Out) -> Outcome
     requires network { net.now ≡ demo_network n }
     requires lengths { HasLengths net.now (cert_of cert.now) }
-    ensures so { ShowsSo result net.now n (cert_of cert.now) (Out.held out.old) (Out.held out.new) }
-    ensures write { result ≡ Outcome.Write → Rose (Out.faults out.old) (Out.faults out.new) }
+    ensures so { (files : Files) (left : Option (List ℕ)) → ShowsUnder result net.now n (cert_of cert.now) (record { files = files; input_before = left; input_after = left; output_before = Out.held out.old; output_after = Out.held out.new }) }
+    ensures unstored { ¬ (status_of result ≡ 2) }
+    ensures write { status_of result ≡ 11 → Rose (Out.faults out.old) (Out.faults out.new) }
+    ensures unread { ¬ (status_of result ≡ 10) }
 {
     let mut session = match open_session(alloc, net, cert) {
         Ok(session) => session,
@@ -39,8 +40,10 @@ fn show_under<Out: Sink>(alloc: Global, net: &Net, n: u64, cert: &Cert, out: &mu
 
 /// Runs 2^20 periods on the demonstration network of this number, and writes a summary.
 pub fn demo<Out: Sink>(alloc: Global, n: u64, out: &mut Out) -> Outcome
-    ensures acts { (files : Files) (other : List ℕ) (left : Option (List ℕ)) → Acts result (Command.Demo n) (demo_network n) files other left left (Out.held out.old) (Out.held out.new) }
-    ensures write { result ≡ Outcome.Write → Rose (Out.faults out.old) (Out.faults out.new) }
+    ensures means { (files : Files) (left : Option (List ℕ)) → Demonstrates result n (record { files = files; input_before = left; input_after = left; output_before = Out.held out.old; output_after = Out.held out.new }) }
+    ensures unstored { ¬ (status_of result ≡ 2) }
+    ensures write { status_of result ≡ 11 → Rose (Out.faults out.old) (Out.faults out.new) }
+    ensures unread { ¬ (status_of result ≡ 10) }
 {
     demo_certified_law();
     let Ok(net) = demo_net(alloc, n) else {

@@ -4,6 +4,7 @@
 mod auditing;
 #[cfg(test)]
 mod audits;
+mod certifying;
 mod checking;
 mod command;
 mod demonstrating;
@@ -13,12 +14,16 @@ mod message;
 mod opening;
 mod outcome;
 mod program;
+mod refuting;
 mod running;
+mod running_with;
 mod scaling;
 mod session;
+mod showing;
+mod streaming;
 #[cfg(test)]
 mod tests;
 
 pub use command::Command;
-pub use outcome::{FileRole, Outcome, TextKind};
+pub use outcome::{CertRule, FileRole, Outcome, TextKind};
 pub use program::top;

@@ -1,15 +1,19 @@
 //! The line on the error output.
 ghost use Rattle.std.specs.Prelude.{◌≡◌, ◌≤◌, ◌+◌, ◌++◌, ◌∷◌, [], length, codes, decimal};
 ghost use Rattle.mp_edge.specs.Outside.{Tells, Puts, HasCause};
-ghost use Rattle.mp_cli.specs.Messages.{rule_number, spot_text, kind_text, fault_text, place_text, message_of, words_of, vector_behind, is_store};
+ghost use Rattle.mp_cli.specs.Commands.{asked};
+ghost use Rattle.mp_cli.specs.Messages.{rule_number, spot_text, kind_text, cert_rule_text, place_text, run_words, message_of, words_of, vector_behind};
+ghost use Rattle.mp_cli.specs.Statuses.{status_of};
 
-use crate::outcome::{Outcome, TextKind};
+use crate::command::{Command, file_of};
+use crate::outcome::{CertRule, Outcome, TextKind};
 use itoa::Integer;
-use mp_cert::{CertFault, print_against};
+use mp_cert::print_against;
 use mp_edge::{Failed, Sink};
 use mp_flow::Place;
 use mp_log::{push_number, push_text};
 use mp_net::{NetRule, Section, Spot};
+use mp_run::RunEnd;
 use mp_text::LineSink;
 
 // The number of a rule, as the line prints it.
@@ -65,25 +69,24 @@ fn push_kind(line: &mut LineSink, kind: TextKind)
     }
 }
 
-// Appends the rule that a certificate breaks, and its numbers.
-fn push_fault(line: &mut LineSink, fault: CertFault)
+// Appends a rule of a certificate, and its numbers.
+fn push_cert_rule(line: &mut LineSink, rule: CertRule)
     requires { length line.old.held ≤ 200 }
-    ensures held { line.new.held ≡ line.old.held ++ fault_text fault }
+    ensures held { line.new.held ≡ line.old.held ++ cert_rule_text rule }
     ensures few { length line.new.held ≤ length line.old.held + 120 }
 {
-    match fault {
-        CertFault::D => push_text(line, b"d"),
-        CertFault::E => push_text(line, b"e"),
-        CertFault::H(k) => push_numbered(line, b"h ", k),
-        CertFault::Whole(j) => push_numbered(line, b"whole ", j),
-        CertFault::Part(j, s) => {
+    match rule {
+        CertRule::D => push_text(line, b"d"),
+        CertRule::E => push_text(line, b"e"),
+        CertRule::H(k) => push_numbered(line, b"h ", k),
+        CertRule::Whole(j) => push_numbered(line, b"whole ", j),
+        CertRule::Part(j, s) => {
             push_numbered(line, b"part ", j);
             push_numbered(line, b" ", s);
         }
-        CertFault::Mass(j) => push_numbered(line, b"mass ", j),
-        CertFault::Serve(k) => push_numbered(line, b"serve ", k),
-        CertFault::Balance(k) => push_numbered(line, b"balance ", k),
-        CertFault::Overflow => {}
+        CertRule::Mass(j) => push_numbered(line, b"mass ", j),
+        CertRule::Serve(k) => push_numbered(line, b"serve ", k),
+        CertRule::Balance(k) => push_numbered(line, b"balance ", k),
     }
 }
 
@@ -125,6 +128,37 @@ fn push_line(line: &mut LineSink, number: u64)
     push_number(line, number);
 }
 
+// Appends the words of a run's end, and nothing where it was done.
+fn push_end(line: &mut LineSink, end: RunEnd)
+    requires { length line.old.held ≤ 100 }
+    ensures held { line.new.held ≡ line.old.held ++ run_words end }
+    ensures few { length line.new.held ≤ length line.old.held + 200 }
+{
+    match end {
+        RunEnd::Done => {}
+        RunEnd::Long { line: number } => {
+            push_line(line, number);
+            push_text(line, b" long");
+        }
+        RunEnd::Grammar { line: number } => {
+            push_line(line, number);
+            push_text(line, b" grammar");
+        }
+        RunEnd::Above {
+            line: number,
+            period,
+            link,
+        } => {
+            push_line(line, number);
+            push_numbered(line, b" above period ", period);
+            push_numbered(line, b" link ", link);
+        }
+        RunEnd::LineLimit => push_text(line, b"lines"),
+        RunEnd::Read => push_text(line, b"read"),
+        RunEnd::Write => push_text(line, b"write"),
+    }
+}
+
 // Makes the line of an outcome that has one and is no fault of the store, but for its line feed.
 fn push_message(line: &mut LineSink, outcome: &Outcome)
     requires { line.old.held ≡ [] }
@@ -149,9 +183,9 @@ fn push_message(line: &mut LineSink, outcome: &Outcome)
         }
         Outcome::Critical(_) => push_text(line, b"network critical"),
         Outcome::Overloaded(_) => push_text(line, b"network overloaded"),
-        Outcome::Certificate(fault) => {
+        Outcome::Certificate(rule) => {
             push_text(line, b"certificate fails ");
-            push_fault(line, *fault);
+            push_cert_rule(line, *rule);
         }
         Outcome::ZeroVector => push_text(line, b"vector fails zero"),
         Outcome::WeakVector => push_text(line, b"vector fails weak"),
@@ -162,24 +196,7 @@ fn push_message(line: &mut LineSink, outcome: &Outcome)
         }
         Outcome::PivotLimit(j) => push_numbered(line, b"pivots ", *j),
         Outcome::SweepLimit(e) => push_numbered(line, b"sweeps ", *e),
-        Outcome::Long { line: number } => {
-            push_line(line, *number);
-            push_text(line, b" long");
-        }
-        Outcome::Grammar { line: number } => {
-            push_line(line, *number);
-            push_text(line, b" grammar");
-        }
-        Outcome::Above {
-            line: number,
-            period,
-            link,
-        } => {
-            push_line(line, *number);
-            push_numbered(line, b" above period ", *period);
-            push_numbered(line, b" link ", *link);
-        }
-        Outcome::LineLimit => push_text(line, b"lines"),
+        Outcome::Run(end) => push_end(line, *end),
         Outcome::Differs { line: number } => {
             push_text(line, b"log differs ");
             push_line(line, *number);
@@ -187,16 +204,6 @@ fn push_message(line: &mut LineSink, outcome: &Outcome)
         Outcome::Read => push_text(line, b"read"),
         Outcome::Write => push_text(line, b"write"),
         Outcome::NoMemory => push_text(line, b"memory"),
-    }
-}
-
-// The outcome is a fault of the store.
-fn is_store(outcome: &Outcome) -> bool
-    ensures { result ≡ is_store outcome.now }
-{
-    match outcome {
-        Outcome::Store(_) => true,
-        _ => false,
     }
 }
 
@@ -221,15 +228,19 @@ fn put_vector<Er: Sink>(err: &mut Er, outcome: &Outcome) -> Result<(), Failed>
     }
 }
 
-/// Puts what is told of an outcome other than `Done`: its line, where a fault of the store names the
+/// Puts what is reported of an outcome that is no success: its line, where a fault of the store names the
 /// file, and the vector that shows a critical or overloaded network.
-pub fn put_message<Er: Sink>(err: &mut Er, outcome: &Outcome, name: &str) -> Result<(), Failed>
-    requires { ¬ (outcome.now ≡ Outcome.Done) }
-    ensures bytes { Tells (Er.held err.old) (Er.held err.new) (Puts result (message_of name.now outcome.now)) }
+pub fn put_message<Er: Sink>(
+    err: &mut Er,
+    command: Command<'_>,
+    outcome: &Outcome,
+) -> Result<(), Failed>
+    requires { ¬ (status_of outcome.now ≡ 0) }
+    ensures bytes { Tells (Er.held err.old) (Er.held err.new) (Puts result (message_of (asked command.entry) outcome.now)) }
     ensures cause { HasCause (Er.faults err.old) (Er.faults err.new) result }
 {
-    if is_store(outcome) {
-        return put_store(err, name);
+    if let Outcome::Store(role) = outcome {
+        return put_store(err, file_of(command, *role));
     }
     let mut line = LineSink::new();
     push_message(&mut line, outcome);

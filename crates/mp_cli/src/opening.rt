@@ -1,14 +1,14 @@
 //! The files that the words name.
-ghost use Rattle.std.specs.Prelude.{◌≡◌, ◌≤◌, ℕ, List, Option, IfOk, IfErr, Err, length};
+ghost use Rattle.std.specs.Prelude.{◌≡◌, ◌≤◌, IfOk, IfErr, length};
 ghost use Rattle.mp_edge.specs.Outside.{Rose, Tells, OfFile};
 ghost use Rattle.mp_model.specs.Certificate.{HasLengths};
-ghost use Rattle.mp_cert.specs.TextMeaning.{AreNatural, IsNatural};
+ghost use Rattle.mp_model.specs.NetworkRules.{IsAcceptable};
+ghost use Rattle.mp_cert.specs.TextMeaning.{cert_meaning, vector_meaning, AreNatural, IsNatural};
 ghost use Rattle.mp_cert.specs.Views.{cert_of};
-ghost use Rattle.mp_cli.specs.Ends.{OfNetwork, Acts};
-ghost use Rattle.mp_cli.specs.Opening.{IsRefusal, IsUnread};
-ghost use Rattle.mp_cli.specs.Others.{OfCert, OfVector, TakesCert};
+ghost use Rattle.mp_netfile.specs.Meaning.{file_meaning};
+ghost use Rattle.mp_cli.specs.Opening.{Reads, RefusesNetwork, RefusesText, IsUnread};
+ghost use Rattle.mp_cli.specs.Statuses.{status_of, HasNoPortFault};
 
-use crate::command::Command;
 use crate::outcome::{FileRole, Outcome, TextKind};
 use mp_cert::{Against, Cert, TextFault, read_against, read_cert};
 use mp_edge::{Store, StoreFault};
@@ -21,11 +21,13 @@ const MOST_BYTES: usize = 1_048_576;
 
 /// Reads the network of the file.
 pub fn open_net<St: Store>(alloc: Global, name: &str, store: &mut St) -> Result<Net, Outcome>
-    ensures net { IfOk result (λ net. OfNetwork (St.files store.old) name.now (λ n. n ≡ net)) }
-    ensures refused { IfErr result (λ outcome. IsRefusal outcome (St.files store.old) name.now) }
+    ensures net { IfOk result (λ net. Reads file_meaning (St.files store.old) name.now (λ n. n ≡ net)) }
+    ensures acceptable { IfOk result IsAcceptable }
+    ensures refused { IfErr result (λ outcome. RefusesNetwork outcome (St.files store.old) name.now) }
+    ensures outside { IfErr result HasNoPortFault }
     ensures later { St.faults store.old ≤ St.faults store.new }
     ensures same { Tells (St.files store.old) (St.files store.new) (λ was now. now ≡ was) }
-    ensures store { (file : FileRole) → result ≡ Err (Outcome.Store file) → Rose (St.faults store.old) (St.faults store.new) }
+    ensures store { IfErr result (λ outcome. status_of outcome ≡ 2 → Rose (St.faults store.old) (St.faults store.new)) }
 {
     let mut bytes = Vec::new(alloc);
     match store.read(alloc, name, &mut bytes, MOST_BYTES) {
@@ -43,29 +45,33 @@ pub fn open_net<St: Store>(alloc: Global, name: &str, store: &mut St) -> Result<
         Err(StoreFault::NoMemory) => return Err(Outcome::NoMemory),
     }
     match read_net(alloc, &bytes) {
-        Ok(net) => Ok(net),
+        Ok(net) => {
+            // A network's share total comes with what its rules say.
+            let _ = net.shares();
+            Ok(net)
+        }
         Err(NetFault::Rule { rule, spot }) => Err(Outcome::Network { rule, spot }),
         Err(NetFault::NoMemory) => Err(Outcome::NoMemory),
     }
 }
 
-// Reads the bytes of the other file.
-fn read_other<St: Store>(
+// Reads the text of the other file.
+fn read_text<St: Store>(
     alloc: Global,
     name: &str,
     kind: TextKind,
     store: &mut St,
 ) -> Result<Vec<u8>, Outcome>
-    ensures ok { IfOk result (λ bytes. OfFile (St.files store.old) name.now (λ b. (bytes.items ≡ b) × (length b ≤ 1048576))) }
+    ensures ok { IfOk result (λ text. OfFile (St.files store.old) name.now (λ bytes. (text.items ≡ bytes) × (length bytes ≤ 1048576))) }
+    ensures few { IfOk result (λ text. length text.items ≤ 1048576) }
     ensures refused { IfErr result (λ outcome. IsUnread outcome kind (St.files store.old) name.now) }
+    ensures outside { IfErr result HasNoPortFault }
     ensures later { St.faults store.old ≤ St.faults store.new }
-    ensures store { (file : FileRole) → result ≡ Err (Outcome.Store file) → Rose (St.faults store.old) (St.faults store.new) }
-    ensures quiet { ¬ (result ≡ Err Outcome.Write) }
-    ensures unread { ¬ (result ≡ Err Outcome.Read) }
+    ensures store { IfErr result (λ outcome. status_of outcome ≡ 2 → Rose (St.faults store.old) (St.faults store.new)) }
 {
-    let mut bytes = Vec::new(alloc);
-    match store.read(alloc, name, &mut bytes, MOST_BYTES) {
-        Ok(()) => Ok(bytes),
+    let mut text = Vec::new(alloc);
+    match store.read(alloc, name, &mut text, MOST_BYTES) {
+        Ok(()) => Ok(text),
         Err(StoreFault::TooLong) => Err(Outcome::LongText(kind)),
         Err(StoreFault::Failed) => Err(Outcome::Store(FileRole::Other)),
         Err(StoreFault::NoMemory) => Err(Outcome::NoMemory),
@@ -79,20 +85,19 @@ pub fn open_cert<St: Store>(
     name: &str,
     store: &mut St,
 ) -> Result<Cert, Outcome>
-    ensures ok { IfOk result (λ cert. OfCert net.now (St.files store.old) name.now (λ c. c ≡ cert_of cert)) }
+    ensures ok { IfOk result (λ cert. Reads (cert_meaning net.now) (St.files store.old) name.now (λ c. c ≡ cert_of cert)) }
     ensures lengths { IfOk result (λ cert. HasLengths net.now (cert_of cert)) }
     ensures natural { IfOk result (λ cert. IsNatural (cert_of cert)) }
-    ensures refused { IfErr result (λ outcome. (command : Command) → TakesCert command → (left was : Option (List ℕ)) → Acts outcome command net.now (St.files store.old) name.now left left was was) }
+    ensures refused { IfErr result (λ outcome. RefusesText outcome TextKind.Certificate (cert_meaning net.now) (St.files store.old) name.now) }
+    ensures outside { IfErr result HasNoPortFault }
     ensures later { St.faults store.old ≤ St.faults store.new }
-    ensures store { (file : FileRole) → result ≡ Err (Outcome.Store file) → Rose (St.faults store.old) (St.faults store.new) }
-    ensures quiet { ¬ (result ≡ Err Outcome.Write) }
-    ensures unread { ¬ (result ≡ Err Outcome.Read) }
+    ensures store { IfErr result (λ outcome. status_of outcome ≡ 2 → Rose (St.faults store.old) (St.faults store.new)) }
 {
-    let bytes = match read_other(alloc, name, TextKind::Certificate, store) {
-        Ok(bytes) => bytes,
+    let text = match read_text(alloc, name, TextKind::Certificate, store) {
+        Ok(text) => text,
         Err(outcome) => return Err(outcome),
     };
-    match read_cert(alloc, net, &bytes) {
+    match read_cert(alloc, net, &text) {
         Ok(cert) => Ok(cert),
         Err(TextFault::Line(line)) => Err(Outcome::Text {
             kind: TextKind::Certificate,
@@ -109,19 +114,19 @@ pub fn open_vector<St: Store>(
     name: &str,
     store: &mut St,
 ) -> Result<Against, Outcome>
-    ensures ok { IfOk result (λ against. OfVector net.now (St.files store.old) name.now (λ p. p ≡ against.p)) }
+    ensures ok { IfOk result (λ against. Reads (vector_meaning net.now) (St.files store.old) name.now (λ p. p ≡ against.p)) }
     ensures lengths { IfOk result (λ against. length against.p ≡ length net.now.movements) }
     ensures natural { IfOk result (λ against. AreNatural against.p) }
-    ensures refused { IfErr result (λ outcome. (left was : Option (List ℕ)) → Acts outcome Command.Refute net.now (St.files store.old) name.now left left was was) }
+    ensures refused { IfErr result (λ outcome. RefusesText outcome TextKind.Vector (vector_meaning net.now) (St.files store.old) name.now) }
+    ensures outside { IfErr result HasNoPortFault }
     ensures later { St.faults store.old ≤ St.faults store.new }
-    ensures store { (file : FileRole) → result ≡ Err (Outcome.Store file) → Rose (St.faults store.old) (St.faults store.new) }
-    ensures quiet { ¬ (result ≡ Err Outcome.Write) }
+    ensures store { IfErr result (λ outcome. status_of outcome ≡ 2 → Rose (St.faults store.old) (St.faults store.new)) }
 {
-    let bytes = match read_other(alloc, name, TextKind::Vector, store) {
-        Ok(bytes) => bytes,
+    let text = match read_text(alloc, name, TextKind::Vector, store) {
+        Ok(text) => text,
         Err(outcome) => return Err(outcome),
     };
-    match read_against(alloc, net, &bytes) {
+    match read_against(alloc, net, &text) {
         Ok(against) => Ok(against),
         Err(TextFault::Line(line)) => Err(Outcome::Text {
             kind: TextKind::Vector,

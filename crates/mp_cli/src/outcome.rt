@@ -1,10 +1,12 @@
 //! How the program ends.
 ghost use Rattle.std.specs.Prelude.{◌≡◌};
-ghost use Rattle.mp_cli.specs.Statuses.{status_of};
+ghost use Rattle.mp_cli.specs.Outcomes.{broken_rule};
+ghost use Rattle.mp_cli.specs.Statuses.{status_of, run_status};
 
 use mp_cert::{Against, CertFault};
 use mp_flow::Place;
-use mp_net::{JunctionNo, LinkNo, NetRule, Spot};
+use mp_net::{JunctionNo, MovementNo, NetRule, Spot, StageNo};
+use mp_run::RunEnd;
 
 /// One of the files that the words name.
 #[derive(Clone, Copy, Debug, PartialEq, Eq)]
@@ -24,33 +26,67 @@ pub enum TextKind {
     Vector,
 }
 
+/// A rule of a certificate, with the numbers of the movement, or of the junction and the stage.
+#[derive(Clone, Copy, Debug, PartialEq, Eq)]
+pub enum CertRule {
+    /// The denominator is at least 1.
+    D,
+    /// The excess is at least 1.
+    E,
+    /// The rate is at least 0.
+    H(MovementNo),
+    /// The whole is at least 1.
+    Whole(JunctionNo),
+    /// The part is at least 0.
+    Part(JunctionNo, StageNo),
+    /// The parts sum to at most the whole times the denominator.
+    Mass(JunctionNo),
+    /// The stages with green for the movement serve its rate.
+    Serve(MovementNo),
+    /// The rate is at least what comes to the movement and the excess.
+    Balance(MovementNo),
+}
+
+/// The rule that a fault of a certificate names, and nothing for an overflow.
+pub fn broken_rule(fault: CertFault) -> Option<CertRule>
+    ensures { result ≡ broken_rule fault }
+{
+    match fault {
+        CertFault::D => Some(CertRule::D),
+        CertFault::E => Some(CertRule::E),
+        CertFault::H(k) => Some(CertRule::H(k)),
+        CertFault::Whole(j) => Some(CertRule::Whole(j)),
+        CertFault::Part(j, s) => Some(CertRule::Part(j, s)),
+        CertFault::Mass(j) => Some(CertRule::Mass(j)),
+        CertFault::Serve(k) => Some(CertRule::Serve(k)),
+        CertFault::Balance(k) => Some(CertRule::Balance(k)),
+        CertFault::Overflow => None,
+    }
+}
+
 /// How a command ends.
 #[derive(Debug, Drop)]
 pub enum Outcome {
-    /// It did what was asked.
+    /// It did what was asked, where that is no run of a stream.
     Done,
+    /// The run of the stream ended so.
+    Run(RunEnd),
     /// The words are not listed.
     Words,
     /// The store met a fault at this file.
     Store(FileRole),
     /// The network file breaks the rule first, there.
-    Network {
-        rule: NetRule,
-        spot: Spot,
-    },
+    Network { rule: NetRule, spot: Spot },
     /// The other file has more than 1,048,576 bytes.
     LongText(TextKind),
     /// The line of the other file is the first that is not in its grammar.
-    Text {
-        kind: TextKind,
-        line: u64,
-    },
+    Text { kind: TextKind, line: u64 },
     /// The network is critical, as the vector shows.
     Critical(Against),
     /// The network is overloaded, as the vector shows.
     Overloaded(Against),
     /// The certificate breaks the rule first.
-    Certificate(CertFault),
+    Certificate(CertRule),
     /// All numbers of the vector are 0.
     ZeroVector,
     /// The load of the vector is below the capacity.
@@ -63,33 +99,28 @@ pub enum Outcome {
     PivotLimit(JunctionNo),
     /// The trial of this excess is not at rest after its last sweep.
     SweepLimit(u64),
-    /// The line of the stream has more than 2,048 bytes.
-    Long {
-        line: u64,
-    },
-    /// The line of the stream is not in the grammar.
-    Grammar {
-        line: u64,
-    },
-    /// The line of the stream gives the arrivals of this period, the first in which some link does not
-    /// keep to its bucket; the link is the least one.
-    Above {
-        line: u64,
-        period: u64,
-        link: LinkNo,
-    },
-    /// The stream has more than 2^48 lines.
-    LineLimit,
     /// The line of the input is the first that differs from a log.
-    Differs {
-        line: u64,
-    },
-    /// The input met a fault.
+    Differs { line: u64 },
+    /// The input met a fault while a log was read.
     Read,
-    /// The output met a fault.
+    /// The output met a fault, where no stream was run.
     Write,
     /// Memory could not be had.
     NoMemory,
+}
+
+// The status of a run's end.
+fn run_status(end: RunEnd) -> u8
+    ensures { result ≡ run_status end }
+{
+    match end {
+        RunEnd::Done => 0,
+        RunEnd::Long { .. } | RunEnd::Grammar { .. } => 7,
+        RunEnd::Above { .. } => 8,
+        RunEnd::LineLimit => 9,
+        RunEnd::Read => 10,
+        RunEnd::Write => 11,
+    }
 }
 
 /// The status that the program ends with.
@@ -98,6 +129,7 @@ pub fn status_of(outcome: &Outcome) -> u8
 {
     match outcome {
         Outcome::Done => 0,
+        Outcome::Run(end) => run_status(*end),
         Outcome::Words => 1,
         Outcome::Store(_) => 2,
         Outcome::Network { .. } | Outcome::LongText(_) | Outcome::Text { .. } => 3,
@@ -106,9 +138,6 @@ pub fn status_of(outcome: &Outcome) -> u8
         Outcome::ZeroVector | Outcome::WeakVector => 4,
         Outcome::Overflow(_) => 5,
         Outcome::PivotLimit(_) => 6,
-        Outcome::Long { .. } | Outcome::Grammar { .. } => 7,
-        Outcome::Above { .. } => 8,
-        Outcome::LineLimit => 9,
         Outcome::Read => 10,
         Outcome::Write => 11,
         Outcome::NoMemory => 12,

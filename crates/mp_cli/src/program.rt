@@ -1,86 +1,52 @@
 //! The top call.
-ghost use Rattle.std.specs.Prelude.{◌≡◌, ◌≤◌, ◌⊎◌, ◌↔◌, ℕ, List, Option, map, string_bytes};
+ghost use Rattle.std.specs.Prelude.{◌≡◌, ◌⊎◌, ◌↔◌, map, string_bytes};
 ghost use Rattle.mp_edge.specs.Outside.{Rose};
-ghost use Rattle.mp_cli.specs.Commands.{command_of, name_of, other_of, HasDenominator};
-ghost use Rattle.mp_cli.specs.Ends.{Acts, Means, Does, named_as, IsEnd};
+ghost use Rattle.mp_cli.specs.Commands.{asked, command_of, HasDenominator, Unknown};
 ghost use Rattle.mp_cli.specs.Complete.{IsGood, IsExcessive};
-ghost use Rattle.mp_cli.specs.Others.{Files};
+ghost use Rattle.mp_cli.specs.Ends.{Means, IsEnd};
+ghost use Rattle.mp_cli.specs.Headline.{Does, OfNetwork, KeepsPromise};
+ghost use Rattle.mp_cli.specs.Statuses.{status_of};
 
 use crate::auditing::audit;
-use crate::checking::{certify, check, refute};
-use crate::command::{Command, command_of, name_of, other_of};
+use crate::certifying::certify;
+use crate::checking::check;
+use crate::command::{Command, command_of};
 use crate::demonstrating::demo;
 use crate::message::put_message;
-use crate::opening::open_net;
-use crate::outcome::{FileRole, Outcome, status_of};
-use crate::running::{run, run_with};
+use crate::outcome::{Outcome, status_of};
+use crate::refuting::refute;
+use crate::running::run;
+use crate::running_with::run_with;
 use crate::scaling::scale;
-use mp_edge::{Failed, Sink, Source, Store};
-use mp_net::Net;
-use mp_netfile::print_net;
+use crate::showing::show;
+use mp_edge::{Sink, Source, Store};
 use std::alloc::Global;
 
-// Writes the network, as a file.
-fn show<Out: Sink>(alloc: Global, net: &Net, out: &mut Out) -> Outcome
-    ensures acts { (files : Files) (other : List ℕ) (left : Option (List ℕ)) → Acts result Command.Show net.now files other left left (Out.held out.old) (Out.held out.new) }
-    ensures out_later { Out.faults out.old ≤ Out.faults out.new }
-    ensures write { result ≡ Outcome.Write → Rose (Out.faults out.old) (Out.faults out.new) }
-{
-    let Ok(text) = print_net(alloc, net) else {
-        return Outcome::NoMemory;
-    };
-    match out.put(text.as_bytes()) {
-        Ok(()) => Outcome::Done,
-        Err(Failed) => Outcome::Write,
-    }
-}
-
-// Does what the command asks for, with the network file and the other file of these names.
+// Does what the command asks for.
 fn obey<St: Store, In: Source, Out: Sink>(
     alloc: Global,
-    command: Command,
-    name: &str,
-    other: &str,
+    command: Command<'_>,
     store: &mut St,
     input: &mut In,
     out: &mut Out,
 ) -> Outcome
-    requires { HasDenominator command }
-    ensures words { command ≡ Command.Unknown → result ≡ Outcome.Words }
-    ensures means { Means result command (St.files store.old) name.now other.now (In.left input.old) (In.left input.new) (Out.held out.old) (Out.held out.new) }
-    ensures store { (file : FileRole) → result ≡ Outcome.Store file → Rose (St.faults store.old) (St.faults store.new) }
-    ensures read { result ≡ Outcome.Read → Rose (In.faults input.old) (In.faults input.new) }
-    ensures write { result ≡ Outcome.Write → Rose (Out.faults out.old) (Out.faults out.new) }
+    requires { HasDenominator (asked command) }
+    ensures means { Means (asked command.entry) result (record { files = St.files store.old; input_before = In.left input.old; input_after = In.left input.new; output_before = Out.held out.old; output_after = Out.held out.new }) }
+    ensures store { status_of result ≡ 2 → Rose (St.faults store.old) (St.faults store.new) }
+    ensures read { status_of result ≡ 10 → Rose (In.faults input.old) (In.faults input.new) }
+    ensures write { status_of result ≡ 11 → Rose (Out.faults out.old) (Out.faults out.new) }
 {
     match command {
-        Command::Unknown => return Outcome::Words,
-        Command::Demo(n) => return demo(alloc, n, out),
-        _ => {}
-    }
-    let net = match open_net(alloc, name, store) {
-        Ok(net) => net,
-        Err(outcome) => return outcome,
-    };
-    match command {
-        Command::Run => run(alloc, &net, input, out),
-        Command::RunWith => run_with(alloc, &net, other, store, input, out),
-        Command::Certify => certify(alloc, &net, out),
-        Command::Check => check(alloc, &net, other, store, out),
-        Command::Refute => refute(alloc, &net, other, store, out),
-        Command::Audit => audit(alloc, &net, input, out),
-        Command::Scale(d) => scale(alloc, &net, d, out),
-        Command::Show => show(alloc, &net, out),
-        Command::Demo(_) | Command::Unknown => unreachable!(),
-    }
-}
-
-// The file that the line of an outcome names, if it names one.
-fn named_in<'a>(outcome: &Outcome, name: &'a str, other: &'a str) -> &'a str
-    ensures { result.now ≡ named_as outcome.now name.now other.now }
-{
-    match outcome {
-        Outcome::Store(FileRole::Other) => other,
-        _ => name,
+        Command::Run { net } => run(alloc, net, store, input, out),
+        Command::RunWith { net, cert } => run_with(alloc, net, cert, store, input, out),
+        Command::Show { net } => show(alloc, net, store, out),
+        Command::Certify { net } => certify(alloc, net, store, out),
+        Command::Check { net, cert } => check(alloc, net, cert, store, out),
+        Command::Refute { net, vector } => refute(alloc, net, vector, store, out),
+        Command::Audit { net } => audit(alloc, net, store, input, out),
+        Command::Demo(n) => demo(alloc, n, out),
+        Command::Scale { net, d } => scale(alloc, net, d, store, out),
+        Command::Unknown => Outcome::Words,
     }
 }
 
@@ -113,34 +79,37 @@ pub fn top<St: Store, In: Source, Out: Sink, Er: Sink>(
     err: &mut Er,
 ) -> u8
     // What the status says of the words, the files, the input and both outputs.
-    ensures ends { IsEnd result (map string_bytes words.now) (St.files store.old) (In.left input.old) (In.left input.new) (Out.held out.old) (Out.held out.new) (Er.held err.old) (Er.held err.new) (Er.faults err.old) (Er.faults err.new) }
+    ensures ends { IsEnd result (map string_bytes words.now) (record { files = St.files store.old; input_before = In.left input.old; input_after = In.left input.new; output_before = Out.held out.old; output_after = Out.held out.new })
+        (record { before = Er.held err.old; after = Er.held err.new; faults_before = Er.faults err.old; faults_after = Er.faults err.new }) }
 
-    // The headline: the whole log of the stream's run, or what else the words ask for, and nothing else.
-    ensures done { result ≡ 0 → Does (map string_bytes words.now) (St.files store.old) (In.left input.old) (In.left input.new) (Out.held out.old) (Out.held out.new) }
+    // The headline: the whole log of the stream's run, or what else the words ask for, and nothing else;
+    // and what is so of every run on the network, and of its slack.
+    ensures done { result ≡ 0 → Does (command_of (map string_bytes words.now)) (record { files = St.files store.old; input_before = In.left input.old; input_after = In.left input.new; output_before = Out.held out.old; output_after = Out.held out.new }) }
+    ensures promised { result ≡ 0 → OfNetwork (command_of (map string_bytes words.now)) (record { files = St.files store.old; input_before = In.left input.old; input_after = In.left input.new; output_before = Out.held out.old; output_after = Out.held out.new }) KeepsPromise }
     ensures quiet { result ≡ 0 → err.new ≡ err.old }
 
     // Causes by the words and by the counts of faults.
-    ensures words { (result ≡ 1) ↔ (command_of (map string_bytes words.now) ≡ Command.Unknown) }
+    ensures words { (result ≡ 1) ↔ (command_of (map string_bytes words.now) ≡ Unknown) }
     ensures store { result ≡ 2 → Rose (St.faults store.old) (St.faults store.new) }
     ensures read { result ≡ 10 → Rose (In.faults input.old) (In.faults input.new) }
     ensures write { result ≡ 11 → Rose (Out.faults out.old) (Out.faults out.new) }
 
     // Where nothing is wrong with what was given or outside, all is done, or memory was wanting.
-    ensures complete { IsGood (map string_bytes words.now) (St.files store.old) (In.left input.old) →
+    ensures complete { IsGood (command_of (map string_bytes words.now)) (St.files store.old) (In.left input.old) →
         ¬ Rose (St.faults store.old) (St.faults store.new) → ¬ Rose (In.faults input.old) (In.faults input.new) → ¬ Rose (Out.faults out.old) (Out.faults out.new) →
         (result ≡ 0) ⊎ (result ≡ 12) }
 
     // Where nothing is wrong but that the stream is above a bucket, it is refused as that.
-    ensures excessive { IsExcessive (map string_bytes words.now) (St.files store.old) (In.left input.old) →
+    ensures excessive { IsExcessive (command_of (map string_bytes words.now)) (St.files store.old) (In.left input.old) →
         ¬ Rose (St.faults store.old) (St.faults store.new) → ¬ Rose (In.faults input.old) (In.faults input.new) → ¬ Rose (Out.faults out.old) (Out.faults out.new) →
         (result ≡ 8) ⊎ (result ≡ 12) }
 {
-    let name = name_of(words);
-    let other = other_of(words);
-    let outcome = obey(alloc, command_of(words), name, other, store, input, out);
-    if let Outcome::Done = &outcome {
+    let command = command_of(words);
+    let outcome = obey(alloc, command, store, input, out);
+    let status = status_of(&outcome);
+    if status == 0 {
         return 0;
     }
-    let _ = put_message(err, &outcome, named_in(&outcome, name, other));
-    status_of(&outcome)
+    let _ = put_message(err, command, &outcome);
+    status
 }

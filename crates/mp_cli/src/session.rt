@@ -1,5 +1,5 @@
 //! The certificate that a network is admitted with, and the opening of a session under one.
-ghost use Rattle.std.specs.Prelude.{◌≡◌, IfOk, IfErr, Err, []};
+ghost use Rattle.std.specs.Prelude.{◌≡◌, IfOk, IfErr, Some, []};
 ghost use Rattle.mp_model.specs.Certificate.{HasLengths, Certifies};
 ghost use Rattle.mp_model.specs.Run.{opening};
 ghost use Rattle.mp_model.specs.Slack.{IsSlack};
@@ -8,10 +8,11 @@ ghost use Rattle.mp_drift.specs.Bounded.{excess, denominator};
 ghost use Rattle.mp_step.specs.Standing.{Stands};
 ghost use Rattle.mp_step.specs.Taken.{HasTaken};
 ghost use Rattle.mp_cli.specs.Outcomes.{outcome_of_fault, outcome_of_calculation, outcome_of_opening};
-ghost use Rattle.mp_cli.specs.Others.{IsUnadmitted, IsAdmittedWith};
-ghost use Rattle.mp_cli.specs.Runs.{IsUnopened};
+ghost use Rattle.mp_cli.specs.Statuses.{HasNoFault};
+ghost use Rattle.mp_cli.specs.Sessions.{IsUnaccepted};
+ghost use Rattle.mp_cli.specs.Verdicts.{IsUnadmitted, OfAdmitted};
 
-use crate::outcome::Outcome;
+use crate::outcome::{Outcome, broken_rule};
 use mp_admit::{Verdict, admit};
 use mp_cert::{Cert, CertFault};
 use mp_drift::{OpenFault, Session};
@@ -23,9 +24,9 @@ use std::alloc::Global;
 pub fn outcome_of_fault(fault: CertFault) -> Outcome
     ensures { result ≡ outcome_of_fault fault }
 {
-    match fault {
-        CertFault::Overflow => Outcome::Overflow(Place::Certificate),
-        _ => Outcome::Certificate(fault),
+    match broken_rule(fault) {
+        Some(rule) => Outcome::Certificate(rule),
+        None => Outcome::Overflow(Place::Certificate),
     }
 }
 
@@ -53,11 +54,10 @@ fn outcome_of_opening(fault: OpenFault) -> Outcome
 
 /// The certificate of the greatest slack, or why the network has none.
 pub fn admitted(alloc: Global, net: &Net) -> Result<Cert, Outcome>
-    ensures admitted { IfOk result (λ cert. IsAdmittedWith net.now (cert_of cert)) }
+    ensures admitted { IfOk result (λ cert. OfAdmitted net.now (λ c. c ≡ cert_of cert)) }
     ensures lengths { IfOk result (λ cert. HasLengths net.now (cert_of cert)) }
     ensures refused { IfErr result (λ outcome. IsUnadmitted outcome net.now) }
-    ensures quiet { ¬ (result ≡ Err Outcome.Write) }
-    ensures unread { ¬ (result ≡ Err Outcome.Read) }
+    ensures inside { IfErr result HasNoFault }
 {
     // A network's share total comes with what its rules say.
     let _ = net.shares();
@@ -77,9 +77,8 @@ pub fn open_session<'a>(alloc: Global, net: &'a Net, cert: &Cert) -> Result<Sess
     ensures slack { IfOk result (λ s. IsSlack (cert_of cert.now) (excess s.slack) (denominator s.slack)) }
     ensures opening { IfOk result (λ s. Stands net.now s.at (opening net.now)) }
     ensures taken { IfOk result (λ s. HasTaken net.now s.at []) }
-    ensures refused { IfErr result (λ outcome. IsUnopened outcome net.now (cert_of cert.now)) }
-    ensures quiet { ¬ (result ≡ Err Outcome.Write) }
-    ensures unread { ¬ (result ≡ Err Outcome.Read) }
+    ensures refused { IfErr result (λ outcome. IsUnaccepted outcome net.now (cert_of cert.now)) }
+    ensures inside { IfErr result HasNoFault }
 {
     match Session::open(alloc, net, cert) {
         Ok(session) => Ok(session),

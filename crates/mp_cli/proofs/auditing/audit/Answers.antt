@@ -1,17 +1,15 @@
-use Rattle.std.proofs.Common.{ap, Err}
+use Rattle.std.proofs.Common.{refl, inl, inr}
 use Rattle.mp_cert.specs.Views.{cert_of}
-use Rattle.mp_cli.proofs.RunLemmas.{audit_admitted, audit_refused}
+use Rattle.mp_netfile.specs.Meaning.{file_meaning}
+use Rattle.mp_cli.proofs.OpeningLemmas.{reads_more}
+use Rattle.mp_cli.proofs.SessionLemmas.{on_session}
 use Rattle.mp_cli.proofs.auditing.audit.Goals as goal
 
-pub returns-in-Ok-clause-acts : goal.returns-in-Ok-clause-acts
-returns-in-Ok-clause-acts g c = λ files other.
-    audit_admitted c.args.net.now (cert_of c.in-Ok.cert) c.in-Ok.ensures.admitted c.audit_under.result files other (g.In.Source.left c.args.input.now) (g.In.Source.left c.audit_under.new.input) (g.Out.Sink.held c.args.out.now) (g.Out.Sink.held c.audit_under.new.out) c.audit_under.ensures.so
+pub returns-in-Err-clause-means : goal.returns-in-Err-clause-means
+returns-in-Err-clause-means g c = inl (c.in-Err.ensures.refused, record { input = refl; output = refl })
 
-pub returns-in-Err-clause-acts : goal.returns-in-Err-clause-acts
-returns-in-Err-clause-acts g c = λ files other. audit_refused c.in-Err.outcome c.args.net.now files other (g.In.Source.left c.args.input.now) (g.Out.Sink.held c.args.out.now) c.in-Err.ensures.refused
+pub returns-in-Ok-admitted-clause-means : goal.returns-in-Ok-admitted-clause-means
+returns-in-Ok-admitted-clause-means g c = inr (reads_more file_meaning _ _ c.in-Ok.net _ c.in-Ok.ensures.net (c.in-Ok.ensures.acceptable, inr (on_session c.in-Ok.net (cert_of c.in-Ok-admitted.cert) c.in-Ok-admitted.ensures.admitted c.audit_under.result _ _ (c.audit_under.ensures.so (g.St.Store.files c.args.store.now)))))
 
-pub returns-in-Err-clause-read : goal.returns-in-Err-clause-read
-returns-in-Err-clause-read g c = λ e. absurd (c.in-Err.ensures.unread (ap Err e))
-
-pub returns-in-Err-clause-write : goal.returns-in-Err-clause-write
-returns-in-Err-clause-write g c = λ e. absurd (c.in-Err.ensures.quiet (ap Err e))
+pub returns-clause-means : goal.returns-clause-means
+returns-clause-means g c = inr (reads_more file_meaning _ _ c.in-Ok.net _ c.in-Ok.ensures.net (c.in-Ok.ensures.acceptable, inl (c.in-Err-admitted.ensures.refused, record { input = refl; output = refl })))

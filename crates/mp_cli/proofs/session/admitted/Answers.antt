@@ -1,12 +1,12 @@
-use Rattle.mp_laws.proofs.Tied.{overload}
-use Rattle.mp_cli.specs.Others.{numbers}
+use Rattle.mp_laws.proofs.Tied.{overload, tight}
+use Rattle.mp_cli.specs.Verdicts.{numbers}
 use Rattle.mp_cli.proofs.session.admitted.Goals as goal
 
-pub returns-in-Ok-Admitted-clause-admitted : goal.returns-in-Ok-Admitted-clause-admitted
-returns-in-Ok-Admitted-clause-admitted c =
-    let reached = rw c.in-Ok-Admitted.field-0-is at c.in-Ok-Admitted.ensures.calculation in
-    let holds = rw c.in-Ok-Admitted.field-0-is at c.in-Ok-Admitted.ensures.holds in
-    record { vector = _; slack = _; reached = reached; admitted = holds.1 }
+pub returns-in-Ok-Critical-clause-refused : goal.returns-in-Ok-Critical-clause-refused
+returns-in-Ok-Critical-clause-refused c =
+    let reached = rw c.in-Ok-Critical.field-0-is at c.in-Ok-Critical.ensures.calculation in
+    let holds = rw c.in-Ok-Critical.field-0-is at c.in-Ok-Critical.ensures.holds in
+    record { reached = reached; tight = holds.1; critical = holds.2; none = tight c.args.net.now c.shares.ensures.acceptable.network (numbers c.in-Ok-Critical.against.p) holds.1 }
 
 pub returns-in-Ok-Overloaded-clause-refused : goal.returns-in-Ok-Overloaded-clause-refused
 returns-in-Ok-Overloaded-clause-refused c =

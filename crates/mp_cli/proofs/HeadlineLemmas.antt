@@ -1,0 +1,151 @@
+-- Where the status is 0 a command has done what it was asked, and its network keeps its promise.
+use Rattle.std.proofs.Common.{◌≡◌, ◌⊎◌, ◌+◌, ℕ, List, [], ◌∷◌, refl, ap, subst, arith, Result, inl, inr, ⊎_elim}
+use Rattle.mp_model.specs.Arrivals.{arrivals_of}
+use Rattle.mp_model.specs.Certificate.{Cert}
+use Rattle.mp_model.specs.Network.{Network}
+use Rattle.mp_model.specs.NetworkRules.{IsNetwork, IsAcceptable}
+use Rattle.mp_model.specs.Run.{advance, greatest_stages, run_from, opening}
+use Rattle.mp_model.specs.Step.{State, queue, queued}
+use Rattle.mp_laws.proofs.Bounds.{all_greatest}
+use Rattle.mp_laws.proofs.Conserved.{step_conserves, conserved}
+use Rattle.mp_laws.proofs.Tied.{no_greater}
+use Rattle.mp_cert.specs.TextMeaning.{cert_meaning, vector_meaning}
+use Rattle.mp_gen.specs.DemoNetwork.{demo_network}
+use Rattle.mp_gen.proofs.Roads.{demo_acceptable}
+use Rattle.mp_netfile.specs.Meaning.{file_meaning}
+use Rattle.mp_run.specs.declared.run.RunEnd.TheVariants as how
+use Rattle.mp_cli.specs.declared.outcome.Outcome.{Outcome}
+use Rattle.mp_cli.specs.declared.outcome.Outcome.TheVariants.{Done, Run as Ran}
+use Rattle.mp_cli.specs.Commands.{Command, Run, RunWith, Show, Certify, Check, Refute, Audit, Demo, Scale, Unknown}
+use Rattle.mp_cli.specs.Auditing.{Compares}
+use Rattle.mp_cli.specs.Demonstrating.{IsShownRun}
+use Rattle.mp_cli.specs.Ends.{Means}
+use Rattle.mp_cli.specs.Headline.{Does, IsPeriod, EachPeriod, KeepsPromise, OfNetwork, WritesLog}
+use Rattle.mp_cli.specs.Opening.{Reads, RefusesNetwork, OnNetwork}
+use Rattle.mp_cli.specs.Ports.{Ports, Files, IsUntouched}
+use Rattle.mp_cli.specs.Sessions.{HoldsWith, HoldsWithGreatest, Opens, OnSession, OnAnySession, AtGreatest, IsUnopened, IsUnaccepted}
+use Rattle.mp_cli.specs.Statuses.{status_of}
+use Rattle.mp_cli.specs.Verdicts.{OfAdmitted}
+
+-- a command that was not refused went on
+went : {R G : Type 0} {ports : Ports} → ((R × IsUntouched ports) ⊎ G) → (R → ⊥) → G
+went (inl refused) never = absurd (never refused.0)
+went (inr goes) never = goes
+
+of_reads : {X E : Type 0} (meaning : List ℕ → Result X E) (files : Files) (name : List ℕ) (P Q : X → Type 0) → Reads meaning files name P → ((x : X) → P x → Q x) → Reads meaning files name Q
+of_reads meaning files name P Q reads f = record { bytes = reads.bytes; there = reads.there; few = reads.few; value = reads.value; means = reads.means; is = f reads.value reads.is }
+
+-- behind a verdict and a session stands the greatest slack
+greatest_of : (outcome : Outcome) (net : Network) (ports : Ports) (P Q : ℕ → ℕ → List ℕ → Type 0) → ((cert : Cert) → IsUnopened outcome net cert → ⊥) → ((num den : ℕ) (bounds : List ℕ) → P num den bounds → Q num den bounds)
+    → OfAdmitted net (λ cert. OnSession outcome net cert ports (AtGreatest net P)) → HoldsWithGreatest net Q
+greatest_of outcome net ports P Q never f admitted =
+    let opens : Opens net (AtGreatest net P) admitted.cert = went admitted.is (never admitted.cert) in
+    let under = opens.holds.holds in
+    record {
+      num = opens.holds.num;
+      den = opens.holds.den;
+      greatest = under.is.0;
+      holds = record { bounds = under.bounds; are = under.are; room = under.room; within = under.within; is = f opens.holds.num opens.holds.den under.bounds under.is.1 };
+    }
+
+with_cert : (outcome : Outcome) (net : Network) (ports : Ports) (P Q : ℕ → ℕ → List ℕ → Type 0) (cert : Cert) → (IsUnaccepted outcome net cert → ⊥) → ((num den : ℕ) (bounds : List ℕ) → P num den bounds → Q num den bounds)
+    → OnAnySession outcome net cert ports P → HoldsWith net Q cert
+with_cert outcome net ports P Q cert never f session =
+    let opens : Opens net P cert = went session never in
+    let under = opens.holds.holds in
+    record {
+      certifies = opens.holds.certifies;
+      num = opens.holds.num;
+      den = opens.holds.den;
+      slack = opens.holds.slack;
+      holds = record { bounds = under.bounds; are = under.are; room = under.room; within = under.within; is = f opens.holds.num opens.holds.den under.bounds under.is };
+    }
+
+does_done : (command : Command) (ports : Ports) → Means command Done ports → Does command ports
+does_done (Run net) ports means = of_reads file_meaning ports.files net _ (λ n. HoldsWithGreatest n (WritesLog n ports)) (went means (λ no. no)) (λ n on. greatest_of Done n ports (λ num den bounds. ⊥) (WritesLog n ports) (λ cert no. no) (λ num den bounds no. absurd no) (went on.1 (λ no. no)))
+does_done (RunWith net cert) ports means =
+    of_reads file_meaning ports.files net _ (λ n. Reads (cert_meaning n) ports.files cert (HoldsWith n (WritesLog n ports))) (went means (λ no. no)) (λ n on.
+    of_reads (cert_meaning n) ports.files cert _ (HoldsWith n (WritesLog n ports)) (went on.1 (λ no. no)) (λ c session. with_cert Done n ports (λ num den bounds. ⊥) (WritesLog n ports) c (λ no. no) (λ num den bounds no. absurd no) session))
+does_done (Show net) ports means = of_reads file_meaning ports.files net _ _ (went means (λ no. no)) (λ n on. went on.1 (λ no. (let wrong = no in cc)))
+does_done (Certify net) ports means = of_reads file_meaning ports.files net _ _ (went means (λ no. no)) (λ n on. let admitted : OfAdmitted n _ = went on.1 (λ no. no) in (admitted.cert, admitted.is))
+does_done (Check net cert) ports means =
+    of_reads file_meaning ports.files net _ _ (went means (λ no. no)) (λ n on.
+    of_reads (cert_meaning n) ports.files cert _ _ (went on.1 (λ no. no)) (λ c checks. (went checks (λ no. no)).1))
+does_done (Refute net vector) ports means =
+    of_reads file_meaning ports.files net _ _ (went means (λ no. no)) (λ n on.
+    of_reads (vector_meaning n) ports.files vector _ _ (went on.1 (λ no. no)) (λ p shows. (went shows (λ no. no)).1))
+does_done (Audit net) ports means = of_reads file_meaning ports.files net _ _ (went means (λ no. no)) (λ n on. greatest_of Done n ports _ _ (λ cert no. no) (λ num den bounds is. is) (went on.1 (λ no. no)))
+does_done (Demo n) ports means = greatest_of Done (demo_network n) ports _ _ (λ cert no. no) (λ num den bounds is. is) (went means (λ no. no))
+does_done (Scale net d) ports means = of_reads file_meaning ports.files net _ _ (went means (λ no. no)) (λ n on. let found = went on.1 (λ no. no) in (found.cert, found.is))
+does_done Unknown ports means = absurd (let no = means.0 in cc)
+
+does_run : (command : Command) (ports : Ports) → Means command (Ran how.Done) ports → Does command ports
+does_run (Run net) ports means = of_reads file_meaning ports.files net _ _ (went means (λ no. no)) (λ n on. greatest_of (Ran how.Done) n ports _ _ (λ cert no. no) (λ num den bounds is. is) (went on.1 (λ no. no)))
+does_run (RunWith net cert) ports means =
+    of_reads file_meaning ports.files net _ _ (went means (λ no. no)) (λ n on.
+    of_reads (cert_meaning n) ports.files cert _ _ (went on.1 (λ no. no)) (λ c session. with_cert (Ran how.Done) n ports _ _ c (λ no. no) (λ num den bounds is. is) session))
+does_run (Show net) ports means = absurd (went ((went means (λ no. no)).is.1) (λ no. (let wrong = no in cc))).answers.1
+does_run (Certify net) ports means = absurd (went ((went means (λ no. no)).is.1) (λ no. no)).is.answers.1
+does_run (Check net cert) ports means = absurd (went (went ((went means (λ no. no)).is.1) (λ no. no)).is (λ no. no)).1.answers.1
+does_run (Refute net vector) ports means = absurd (⊎_elim (λ s. s.answers.1) (λ s. s.answers.1) (went (went ((went means (λ no. no)).is.1) (λ no. no)).is (λ no. no)).1)
+does_run (Audit net) ports means =
+    let on = went means (λ no. no) in
+    let none : HoldsWithGreatest on.value (λ num den bounds. ⊥) = greatest_of (Ran how.Done) on.value ports (Compares (Ran how.Done) on.value ports) _ (λ cert no. no) (λ num den bounds is. is.written) (went on.is.1 (λ no. no)) in
+    absurd none.holds.is
+does_run (Demo n) ports means =
+    let none : HoldsWithGreatest (demo_network n) (λ num den bounds. ⊥) = greatest_of (Ran how.Done) (demo_network n) ports (IsShownRun (Ran how.Done) (demo_network n) n ports) _ (λ cert no. no) (λ num den bounds is. is.answers.1) (went means (λ no. no)) in
+    absurd none.holds.is
+does_run (Scale net d) ports means = absurd (went ((went means (λ no. no)).is.1) (λ no. no)).is.answers.1
+does_run Unknown ports means = absurd (let no = means.0 in cc)
+
+zero_outcome : (outcome : Outcome) → status_of outcome ≡ 0 → (outcome ≡ Done) ⊎ (outcome ≡ Ran how.Done)
+zero_outcome Done done = inl refl
+zero_outcome (Ran how.Done) done = inr refl
+zero_outcome outcome done = absurd (omega arith)
+
+pub does : (command : Command) (outcome : Outcome) (ports : Ports) → status_of outcome ≡ 0 → Means command outcome ports → Does command ports
+does command outcome ports done means =
+    ⊎_elim (λ (is : outcome ≡ Done). does_done command ports (subst (λ (o : Outcome). Means command o ports) is means)) (λ (is : outcome ≡ Ran how.Done). does_run command ports (subst (λ (o : Outcome). Means command o ports) is means)) (zero_outcome outcome done)
+
+-- a period of the run is one of greatest stages that keeps the balance
+period_of : (net : Network) → IsNetwork net → (state : State) (counts : List ℕ) → state.total_in ≡ state.total_out + queued net state → IsPeriod net state counts (advance net counts state)
+period_of net ok state counts balanced = record {
+  stages = greatest_stages net (queue state);
+  greatest = all_greatest net (queue state) net.junctions ok.some_stage;
+  moved = refl;
+  line = refl;
+  balanced = step_conserves net ok (greatest_stages net (queue state)) (arrivals_of net counts) state balanced;
+}
+
+periods_from : (net : Network) → IsNetwork net → (state : State) → state.total_in ≡ state.total_out + queued net state → (A : List (List ℕ)) → EachPeriod (IsPeriod net) (run_from net state A) A
+periods_from net ok state balanced [] = tt
+periods_from net ok state balanced (counts ∷ []) = (period_of net ok state counts balanced, tt)
+periods_from net ok state balanced (counts ∷ more ∷ A) =
+    let period = period_of net ok state counts balanced in
+    (period, periods_from net ok (advance net counts state) period.balanced (more ∷ A))
+
+promise_of : (net : Network) → IsNetwork net → KeepsPromise net
+promise_of net ok = record {
+  periods = λ A permitted. periods_from net ok (opening net) (conserved net ok []).0 A;
+  slack = λ num den greatest cert certifies. no_greater net ok cert certifies greatest.shown.0 num den greatest.shown.1;
+}
+
+promise_on : (outcome : Outcome) (net : List ℕ) (ports : Ports) (P : Network → Type 0) → (RefusesNetwork outcome ports.files net → ⊥) → OnNetwork outcome net ports P → Reads file_meaning ports.files net KeepsPromise
+promise_on outcome net ports P never on = of_reads file_meaning ports.files net (λ n. IsAcceptable n × P n) KeepsPromise (went on never) (λ n is. promise_of n is.0.network)
+
+not_refused : (outcome : Outcome) (files : Files) (name : List ℕ) → status_of outcome ≡ 0 → RefusesNetwork outcome files name → ⊥
+not_refused Done files name done refused = refused
+not_refused (Ran end) files name done refused = refused
+not_refused outcome files name done refused = absurd (omega arith)
+
+pub promised : (command : Command) (outcome : Outcome) (ports : Ports) → status_of outcome ≡ 0 → Means command outcome ports → OfNetwork command ports KeepsPromise
+promised (Run net) outcome ports done means = promise_on outcome net ports _ (not_refused outcome ports.files net done) means
+promised (RunWith net cert) outcome ports done means = promise_on outcome net ports _ (not_refused outcome ports.files net done) means
+promised (Show net) outcome ports done means = promise_on outcome net ports _ (not_refused outcome ports.files net done) means
+promised (Certify net) outcome ports done means = promise_on outcome net ports _ (not_refused outcome ports.files net done) means
+promised (Check net cert) outcome ports done means = promise_on outcome net ports _ (not_refused outcome ports.files net done) means
+promised (Refute net vector) outcome ports done means = promise_on outcome net ports _ (not_refused outcome ports.files net done) means
+promised (Audit net) outcome ports done means = promise_on outcome net ports _ (not_refused outcome ports.files net done) means
+promised (Demo n) outcome ports done means = promise_of (demo_network n) (demo_acceptable n).network
+promised (Scale net d) outcome ports done means = promise_on outcome net ports _ (not_refused outcome ports.files net done) means
+promised Unknown outcome ports done means = absurd (let wrong = means.0 in omega (arith, ap status_of wrong))
