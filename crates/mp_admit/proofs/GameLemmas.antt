@@ -7,7 +7,7 @@ use Rattle.mp_flow.specs.Systems.{Flows}
 use Rattle.mp_flow.specs.declared.network.Place.{Place}
 use Rattle.mp_flow.specs.declared.network.CalcFault.{CalcFault}
 use Rattle.mp_verdict.specs.Game.{Standing, all_tried, played, played_from, turn_limit, after_junction, game}
-use Rattle.mp_verdict.specs.Stated.{Reached, at_place, then, passed, Gives}
+use Rattle.mp_verdict.specs.Stated.{Reached, at_place, then, run_reached, Gives}
 use Rattle.mp_admit.specs.declared.standing.Standing.{Standing as Kept}
 use Rattle.mp_admit.specs.Standings.{standing_of, standings_of, IfStands, StandsIn}
 use Rattle.mp_admit.proofs.FaultLemmas.{fault_then}
@@ -42,7 +42,7 @@ pub ruleset passing = (to_z-of_z, start_stands, after_none, after_played)
 
 -- ---- all junctions, one after the other
 pub record Passing (net : Network) (flows : Flows) (i : ℕ) (now : Option Kept) : Type 0 where
-  pub rest : game net flows ≡ passed (after_junction net flows) (standings_of now) (drop i (junction_numbers net))
+  pub rest : game net flows ≡ run_reached (after_junction net flows) (standings_of now) (drop i (junction_numbers net))
   pub stands : IfStands net now
 
 pub passing_start : (net : Network) (flows : Flows) → Passing net flows 0 None
@@ -50,21 +50,21 @@ unfolding game
 passing_start net flows = record { rest = refl; stands = tt }
 
 passed_at : (net : Network) (flows : Flows) (now : Option Standing) (i : ℕ) → i < length net.junctions →
-    passed (after_junction net flows) now (drop i (junction_numbers net)) ≡ then (after_junction net flows now (i + 1)) (λ t. passed (after_junction net flows) t (drop (i + 1) (junction_numbers net)))
-unfolding passed
+    run_reached (after_junction net flows) now (drop i (junction_numbers net)) ≡ then (after_junction net flows now (i + 1)) (λ t. run_reached (after_junction net flows) t (drop (i + 1) (junction_numbers net)))
+unfolding run_reached
 passed_at net flows now i h =
     let l = length-range_with_len 1 (length net.junctions) in
-    rw (drop_more (junction_numbers net) i 0 (omega (arith, l))) (ap (λ k. then (after_junction net flows now k) (λ t. passed (after_junction net flows) t (drop (i + 1) (junction_numbers net)))) (sym (number_at (length net.junctions) i h)))
+    rw (drop_more (junction_numbers net) i 0 (omega (arith, l))) (ap (λ k. then (after_junction net flows now k) (λ t. run_reached (after_junction net flows) t (drop (i + 1) (junction_numbers net)))) (sym (number_at (length net.junctions) i h)))
 
 pub passing_more : (net : Network) (flows : Flows) (i : ℕ) (now next : Option Kept) → Passing net flows i now → i < length net.junctions → after_junction net flows (standings_of now) (i + 1) ≡ Reached (standings_of next) → IfStands net next → Passing net flows (i + 1) next
-passing_more net flows i now next p h e s = record { rest = p.rest ∙ passed_at net flows (standings_of now) i h ∙ ap (λ t. then t (λ t. passed (after_junction net flows) t (drop (i + 1) (junction_numbers net)))) e; stands = s }
+passing_more net flows i now next p h e s = record { rest = p.rest ∙ passed_at net flows (standings_of now) i h ∙ ap (λ t. then t (λ t. run_reached (after_junction net flows) t (drop (i + 1) (junction_numbers net)))) e; stands = s }
 
 pub passing_fault : {X X' : Type 0} (seen : X → Option Standing) (seen' : X' → Option Standing) (net : Network) (flows : Flows) (i : ℕ) (now : Option Kept) (fault : CalcFault) → Passing net flows i now → i < length net.junctions →
     Gives seen (Err fault) (after_junction net flows (standings_of now) (i + 1)) → Gives seen' (Err fault) (game net flows)
 passing_fault seen seen' net flows i now fault p h g = fault_then seen seen' fault (after_junction net flows (standings_of now) (i + 1)) _ (game net flows) (p.rest ∙ passed_at net flows (standings_of now) i h) g
 
 pub passing_end : (net : Network) (flows : Flows) (i : ℕ) (now : Option Kept) → Passing net flows i now → length net.junctions ≤ i → game net flows ≡ Reached (standings_of now)
-unfolding passed
+unfolding run_reached
 passing_end net flows i now p h = let l = length-range_with_len 1 (length net.junctions) in p.rest ∙ rw (drop_all i (junction_numbers net) (omega (arith, l))) refl
 
 pub passing_stands : (net : Network) (flows : Flows) (i : ℕ) (now : Option Kept) → Passing net flows i now → IfStands net now

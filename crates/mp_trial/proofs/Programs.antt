@@ -23,7 +23,7 @@ use Rattle.mp_verdict.proofs.Falls.{good_at}
 use Rattle.mp_verdict.proofs.FlowNumbers.{positive_is, above_one}
 use Rattle.mp_verdict.proofs.Solved.{IsSolved, plan_of}
 use Rattle.mp_verdict.proofs.Programs.{solved_by}
-use Rattle.mp_verdict.proofs.Turns.{over_numbers}
+use Rattle.mp_verdict.proofs.Turns.{within_numbers, over_numbers}
 use Rattle.mp_trial.specs.Trials.{is_above_whole}
 use Rattle.mp_trial.proofs.Bounds.{served_at}
 
@@ -31,13 +31,6 @@ use Rattle.mp_trial.proofs.Bounds.{served_at}
 above_is : (D : ℕ) (o : Optimum) (b : Bool) → is_above_whole D o ≡ Some b → b ≡ int_lt (pos D *ℤ o.value.den) o.value.num
 unfolding is_above_whole
 above_is D o b e = option_map_some _ (within (pos D *ℤ o.value.den)) b e (λ most h e'. e' ∙ ap (λ t. int_lt t o.value.num) (within_some _ most h))
-
-within_numbers : (s m D d : ℕ) (n : ℤ) → 1 ≤ d → pos s *ℤ pos d ≡ n *ℤ pos m → n ≤ℤ (pos D *ℤ pos d) → s ≤ m * D
-within_numbers s m D d n some e le =
-    let a = mul_le_nat m n (pos D *ℤ pos d) le in
-    let b : pos m *ℤ n ≡ n *ℤ pos m = omega (arith, ints) in
-    let c : pos m *ℤ (pos D *ℤ pos d) ≡ pos (m * (D * d)) = ap (λ t. pos m *ℤ t) (mul_posℤ D d) ∙ mul_posℤ m (D * d) in
-    cancel_le d s (m * D) some (omega (arith, ints, a, b, c, e, mul_posℤ s d))
 
 module _ (net : Network) (j : Junction) (h : ℕ → ℤ) (D : ℕ) (o : Optimum) (solved : IsSolved net j h o) where
   den_is : o.value.den ≡ pos (unsigned_abs o.value.den)

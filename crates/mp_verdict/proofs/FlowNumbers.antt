@@ -8,7 +8,7 @@ use Rattle.mp_model.specs.Network.{Network, link_numbers, link_at, from_of, to_o
 use Rattle.mp_model.specs.Certificate.{int_entry}
 use Rattle.mp_laws.proofs.Lists.{each_in, at_in, at_index}
 use Rattle.mp_flow.specs.Systems.{Flows, Worths, AreFlows, AreWorths, IsBalancedFlow, IsBalancedWorth, onward}
-use Rattle.mp_verdict.specs.Worst.{IsFlow, IsWorth, ahead}
+use Rattle.mp_verdict.specs.Worst.{naturals_in, IsFlow, IsWorth, ahead}
 use Rattle.mp_verdict.proofs.Falls.{ints-same_in}
 use Rattle.mp_verdict.proofs.Signed.{ints-pos, mul_posℤ}
 
@@ -25,10 +25,6 @@ positive_is z h = abs_is z (omega (arith, ints))
 
 pub entry_sign : (xs : List ℤ) → All (λ v. pos 0 ≤ℤ v) xs → (l : ℕ) → pos 0 ≤ℤ int_entry xs l
 entry_sign xs h l = at_index (λ v. pos 0 ≤ℤ v) (pos 0) xs (l - 1) (recursion_from_All (λ v. pos 0 ≤ℤ v) xs h) (omega (arith, ints))
-
--- the entries of a list as natural numbers
-abbrev pub naturals_in : List ℤ → ℕ → ℕ
-naturals_in xs l = unsigned_abs (int_entry xs l)
 
 row_numbers : (W F S D r : ℕ) (f s d : ℤ) → f ≡ pos F → s ≡ pos S → d ≡ pos D → pos W *ℤ f ≡ s +ℤ d *ℤ pos r → W * F ≡ S + D * r
 row_numbers W F S D r f s d ef es ed e =

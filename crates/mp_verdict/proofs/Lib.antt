@@ -29,7 +29,8 @@ pub mod VectorOf
 pub mod Balance
 pub mod Carried
 pub mod Holders
-pub mod SignedCertificate
+pub mod NaturalRules
+pub mod CarriedRates
 pub mod Certified
 pub mod StandingLaw
 pub mod RatesThere

@@ -16,10 +16,11 @@ use Rattle.mp_num.proofs.OutcomeLemmas.{option_map_some, each_some}
 use Rattle.mp_flow.specs.Systems.{Flows, AreFlows}
 use Rattle.mp_verdict.specs.Passing.{times, num}
 use Rattle.mp_verdict.specs.Rates.{Rates, period_unit, rate_need, unit_need, need_at, rates_in, rate_row, rates_at}
+use Rattle.mp_verdict.specs.Worst.{naturals_in}
 use Rattle.mp_verdict.proofs.Plain.{AreRates, asked, unit_asked}
 use Rattle.mp_verdict.proofs.Signed.{mul_posℤ}
 use Rattle.mp_verdict.proofs.Values.{Gives, gives-some, gives-times, gives-plus, gives-same}
-use Rattle.mp_verdict.proofs.FlowNumbers.{abs_is, positive_is, entry_sign, naturals_in}
+use Rattle.mp_verdict.proofs.FlowNumbers.{abs_is, positive_is, entry_sign}
 
 -- the flows as natural numbers
 abbrev pub d_of : Flows → ℕ

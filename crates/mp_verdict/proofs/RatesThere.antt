@@ -3,7 +3,7 @@ use Rattle.std.proofs.Common.{◌≡◌, ℕ, zero, suc, ◌+◌, List, [], ◌�
 use Rattle.mp_model.specs.Network.{Network, junction_numbers}
 use Rattle.mp_flow.specs.declared.network.Place.{Place}
 use Rattle.mp_flow.specs.Systems.{Flows}
-use Rattle.mp_verdict.specs.Stated.{Reached, at_place, passed}
+use Rattle.mp_verdict.specs.Stated.{Reached, at_place, run_reached}
 use Rattle.mp_verdict.specs.Rates.{Rates, rates_at}
 use Rattle.mp_verdict.specs.Game.{Standing, Turn, Carried, Lowered, turn_limit, turn, after_turn, played, played_from, all_tried, after_junction, game}
 use Rattle.mp_verdict.specs.Laws.{RatesLaw}
@@ -43,8 +43,8 @@ module _ (net : Network) (flows : Flows) where
   unfolding after_junction
   junction_rates j standing next e = then_reached (at_place (Place.Game j) (all_tried net flows j standing)) _ next e (λ mid hm e1. from_rates j mid next e1)
 
-  passed_rates : (js : List ℕ) (standing fin : Option Standing) → RatesAfter net flows standing → passed (after_junction net flows) standing js ≡ Reached fin → RatesAfter net flows fin
-  unfolding passed
+  passed_rates : (js : List ℕ) (standing fin : Option Standing) → RatesAfter net flows standing → run_reached (after_junction net flows) standing js ≡ Reached fin → RatesAfter net flows fin
+  unfolding run_reached
   passed_rates [] standing fin h e = subst (RatesAfter net flows) (same_reached standing fin e) h
   passed_rates (j ∷ js) standing fin h e = then_reached (after_junction net flows standing j) _ fin e (λ mid hm e1. passed_rates js mid fin (junction_rates j standing mid hm) e1)
 

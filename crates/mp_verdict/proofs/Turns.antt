@@ -41,7 +41,7 @@ pub over_is : (rates : Rates) (o : Optimum) (over : Bool) → is_over rates o �
 unfolding is_over
 over_is rates o over e = option_map_some _ (within (rates.d *ℤ o.value.den)) over e (λ most hm e'. e' ∙ ap (λ t. int_lt t o.value.num) (within_some _ most hm))
 
-within_numbers : (S m D vd : ℕ) (n : ℤ) → 1 ≤ vd → pos S *ℤ pos vd ≡ n *ℤ pos m → n ≤ℤ (pos D *ℤ pos vd) → S ≤ m * D
+pub within_numbers : (S m D vd : ℕ) (n : ℤ) → 1 ≤ vd → pos S *ℤ pos vd ≡ n *ℤ pos m → n ≤ℤ (pos D *ℤ pos vd) → S ≤ m * D
 within_numbers S m D vd n some e le =
     let a = mul_le_nat m n (pos D *ℤ pos vd) le in
     let b : pos m *ℤ n ≡ n *ℤ pos m = omega (arith, ints) in

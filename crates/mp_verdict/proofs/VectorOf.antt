@@ -17,11 +17,11 @@ use Rattle.mp_flow.specs.Systems.{Worths, stated_worths, onward}
 use Rattle.mp_verdict.specs.Passing.{times, num}
 use Rattle.mp_verdict.specs.Game.{Standing}
 use Rattle.mp_verdict.specs.Vector.{value_beside, spread, link_value, link_values, vector_entry, vector_by, vector_of}
-use Rattle.mp_verdict.specs.Worst.{IsWorth, IsDivided, against}
+use Rattle.mp_verdict.specs.Worst.{naturals_in, IsWorth, IsDivided, against}
 use Rattle.mp_verdict.proofs.Plain.{values_of}
 use Rattle.mp_verdict.proofs.Signed.{mul_posℤ}
 use Rattle.mp_verdict.proofs.Values.{Gives, gives-some, gives-times, gives-plus, gives-same, gives-sum}
-use Rattle.mp_verdict.proofs.FlowNumbers.{abs_is, positive_is, naturals_in, onward_is, worth_is}
+use Rattle.mp_verdict.proofs.FlowNumbers.{abs_is, positive_is, onward_is, worth_is}
 use Rattle.mp_verdict.proofs.RatesAt.{factor_sign}
 use Rattle.mp_verdict.proofs.Sound.{weights_of}
 use Rattle.mp_verdict.proofs.StatedFlows.{worths_are}

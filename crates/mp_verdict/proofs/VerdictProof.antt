@@ -32,7 +32,7 @@ use Rattle.mp_verdict.proofs.Whole.{game_sound, game_end}
 use Rattle.mp_verdict.proofs.VectorOf.{IsVectorOf, vector_is}
 use Rattle.mp_verdict.proofs.VectorLaw.{shows, by_sign}
 use Rattle.mp_verdict.proofs.Carried.{none_overloads}
-use Rattle.mp_verdict.proofs.SignedCertificate.{carries_rates}
+use Rattle.mp_verdict.proofs.CarriedRates.{carries_rates}
 use Rattle.mp_verdict.proofs.Certified.{certifies, has_slack}
 use Rattle.mp_verdict.proofs.StandingLaw.{no_motion}
 

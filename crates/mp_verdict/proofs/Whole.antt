@@ -11,7 +11,7 @@ use Rattle.mp_num.specs.Passing.{run}
 use Rattle.mp_num.proofs.OutcomeLemmas.{option_map_some}
 use Rattle.mp_flow.specs.declared.network.Place.{Place}
 use Rattle.mp_flow.specs.Systems.{Flows, AreFlows}
-use Rattle.mp_verdict.specs.Stated.{Reached, at_place, passed}
+use Rattle.mp_verdict.specs.Stated.{Reached, at_place, run_reached}
 use Rattle.mp_verdict.specs.Game.{Standing, slack_alone, is_lower, alone, taken, tried, all_tried, turn_limit, played, played_from, after_junction, game}
 use Rattle.mp_verdict.proofs.Plain.{CarriesAt, IsEnd}
 use Rattle.mp_verdict.proofs.RatesAt.{d_of, f_of, g_of}
@@ -60,8 +60,8 @@ module _ (net : Network) (ok : IsNetwork net) (flows : Flows) (are : AreFlows ne
       (λ none. (first_none net flows (n + 1) ks ks standing (there ∙ ap Some none)).1) e1))
 
   passed_sound : (count n a : ℕ) (standing fin : Option Standing) → a ≡ n + 1 → n + count ≤ length net.junctions → IsSoundAt net flows n standing →
-      passed (after_junction net flows) standing (range_with_len a count) ≡ Reached fin → IsSoundAt net flows (n + count) fin
-  unfolding passed
+      run_reached (after_junction net flows) standing (range_with_len a count) ≡ Reached fin → IsSoundAt net flows (n + count) fin
+  unfolding run_reached
   passed_sound zero n a standing fin ea l sound e =
       let same : n ≡ n + 0 = omega arith in
       subst (λ (k : ℕ). IsSoundAt net flows k fin) same (subst (IsSoundAt net flows n) (same_reached standing fin e) sound)
@@ -76,7 +76,7 @@ module _ (net : Network) (ok : IsNetwork net) (flows : Flows) (are : AreFlows ne
   none_before i some l = absurd (omega arith)
 
   -- the standing after the first n junctions
-  pub some_sound : (n : ℕ) (standing : Option Standing) → n ≤ length net.junctions → passed (after_junction net flows) None (numbers_to n) ≡ Reached standing → IsSoundAt net flows n standing
+  pub some_sound : (n : ℕ) (standing : Option Standing) → n ≤ length net.junctions → run_reached (after_junction net flows) None (numbers_to n) ≡ Reached standing → IsSoundAt net flows n standing
   some_sound n standing l e =
       let same : 0 + n ≡ n = omega arith in
       subst (λ (k : ℕ). IsSoundAt net flows k standing) same (passed_sound n 0 1 None standing refl (omega arith) none_before e)

@@ -9,7 +9,7 @@ use Rattle.mp_flow.specs.declared.network.Place.{Place}
 use Rattle.mp_flow.specs.Systems.{Flows}
 use Rattle.mp_simplex.specs.declared.Optimum.{Optimum}
 use Rattle.mp_simplex.specs.Outcome.{maximised}
-use Rattle.mp_verdict.specs.Stated.{Stated, Reached, LimitAt, then, at_place, passed}
+use Rattle.mp_verdict.specs.Stated.{Stated, Reached, LimitAt, then, at_place, run_reached}
 use Rattle.mp_verdict.specs.Passing.{times, less, num, summed}
 use Rattle.mp_verdict.specs.Rates.{Rates, period_unit, rate_need, unit_need, rates_at}
 use Rattle.mp_verdict.specs.Program.{program, optimum_at}
@@ -130,4 +130,4 @@ after_junction net flows standing j = then (at_place (Place.Game j) (all_tried n
 
 -- This is the standing at the end of the game, after all junctions in order.
 unfoldable pub game : Network → Flows → Stated (Option Standing)
-game net flows = passed (after_junction net flows) None (junction_numbers net)
+game net flows = run_reached (after_junction net flows) None (junction_numbers net)

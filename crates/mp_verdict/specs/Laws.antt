@@ -10,13 +10,13 @@ use Rattle.mp_model.specs.Slack.{IsSlack, ShowsSlack, IsGreatestSlack}
 use Rattle.mp_num.specs.Fraction.{Fraction, IsLowest}
 use Rattle.mp_flow.specs.Systems.{Flows, AreFlows}
 use Rattle.mp_simplex.specs.Outcome.{Ray, maximised}
-use Rattle.mp_verdict.specs.Stated.{Reached, passed}
+use Rattle.mp_verdict.specs.Stated.{Reached, run_reached}
 use Rattle.mp_verdict.specs.Rates.{Rates, rates_at}
 use Rattle.mp_verdict.specs.Program.{program}
 use Rattle.mp_verdict.specs.Game.{Standing, after_junction, game}
 use Rattle.mp_verdict.specs.Mixes.{certificate_at}
 use Rattle.mp_verdict.specs.Verdict.{Verdict, Admitted, Critical, Overloaded, Motionless, verdict}
-use Rattle.mp_verdict.specs.Worst.{IsWorst}
+use Rattle.mp_verdict.specs.Worst.{naturals_in, IsWorst}
 
 -- ---- the game
 -- This is the need of movement k at a slack, exactly.
@@ -34,21 +34,17 @@ pub record CarriesSlack (net : Network) (flows : Flows) (slack : Fraction) (j : 
   pub mass : int_sum_by (λ part. part) mix.parts ≤ℤ (mix.whole *ℤ ((pos (net.shares * net.per) *ℤ flows.d) *ℤ slack.den))
   pub serve : AllByRecursion (λ k. (mix.whole *ℤ exact_need net flows slack k) ≤ℤ (pos (flow_of net k) *ℤ parts_with j.stages mix.parts k)) (own net j)
 
--- These are the entries of a list that has none below 0, as natural numbers.
-abbrev pub naturals : List ℤ → ℕ → ℕ
-naturals xs l = unsigned_abs (int_entry xs l)
-
 -- A standing stands after the first n junctions where its slack is in lowest terms and is that of a worst junction, its values are at least 0, and each of these junctions carries the slack.
 pub record StandsAfter (net : Network) (flows : Flows) (n : ℕ) (standing : Standing) : Type 0 where
   pub lowest : IsLowest standing.slack.num standing.slack.den
-  pub worst : (Z : ℕ → ℕ) × (z : ℕ) × IsWorst net (unsigned_abs flows.d) (naturals flows.rate) (naturals flows.unit) standing.junction Z z standing.slack.num (unsigned_abs standing.slack.den)
+  pub worst : (Z : ℕ → ℕ) × (z : ℕ) × IsWorst net (unsigned_abs flows.d) (naturals_in flows.rate) (naturals_in flows.unit) standing.junction Z z standing.slack.num (unsigned_abs standing.slack.den)
   pub values : AllByRecursion (λ z. pos 0 ≤ℤ z) standing.values
   pub carries : (i : ℕ) → 1 ≤ i → i ≤ n → CarriesSlack net flows standing.slack (junction_at net i)
 
 -- Earlier junctions stay satisfied: the standing after the first n junctions is one whose slack all of them carry.
 abbrev pub SatisfiedLaw : Type 0
 SatisfiedLaw = (net : Network) → IsNetwork net → (flows : Flows) → AreFlows net flows → (n : ℕ) → n ≤ length net.junctions → (standing : Standing) →
-    passed (after_junction net flows) None (numbers_to n) ≡ Reached (Some standing) → StandsAfter net flows n standing
+    run_reached (after_junction net flows) None (numbers_to n) ≡ Reached (Some standing) → StandsAfter net flows n standing
 
 -- No program of a junction grows without end.
 abbrev pub BoundedLaw : Type 0

@@ -10,7 +10,7 @@ pub data Stated (X : Type 0) : Type 0 where
   PassesAt : Place → Stated X
   LimitAt : ℕ → Stated X
 
--- A calculation goes on with the value that was reached; what has passed or come to the limit stays so.
+-- A calculation goes on with the value that was reached; what has exceeded 128 bits or come to the limit stays so.
 abbrev pub then : {X Y : Type 0} → Stated X → (X → Stated Y) → Stated Y
 then (Reached x) go = go x
 then (PassesAt place) go = PassesAt place
@@ -22,9 +22,9 @@ at_place place None = PassesAt place
 at_place place (Some x) = Reached x
 
 -- This is a running value over a list, as far as it is reached.
-unfoldable pub passed : {X S : Type 0} → (S → X → Stated S) → S → List X → Stated S
-passed f s [] = Reached s
-passed f s (x ∷ xs) = then (f s x) (λ t. passed f t xs)
+unfoldable pub run_reached : {X S : Type 0} → (S → X → Stated S) → S → List X → Stated S
+run_reached f s [] = Reached s
+run_reached f s (x ∷ xs) = then (f s x) (λ t. run_reached f t xs)
 
 -- These are the values of a list's entries, as far as they are reached.
 unfoldable pub each_reached : {X Y : Type 0} → (X → Stated Y) → List X → Stated (List Y)

@@ -1,8 +1,13 @@
 -- The words of the laws of the vector, over natural numbers: flows and worths as functions of the link, values as functions of the movement.
-use Rattle.std.specs.Prelude.{◌≡◌, ◌≤◌, ℕ, ◌+◌, ◌*◌, true, false, map, length, sum_by, Option, Some, None, ℤ, pos, ◌-ℤ◌, ◌*ℤ◌}
+use Rattle.std.specs.Prelude.{◌≡◌, ◌≤◌, ℕ, ◌+◌, ◌*◌, true, false, map, length, sum_by, List, Option, Some, None, ℤ, pos, ◌-ℤ◌, ◌*ℤ◌, unsigned_abs}
 use Rattle.std.specs.List.{AllByRecursion}
 use Rattle.mp_model.specs.Network.{Network, Junction, link_numbers, movement_numbers, junction_at, link_at, from_of, to_of, share_of, flow_of, into_link, out_of, stands_in, has}
+use Rattle.mp_model.specs.Certificate.{int_entry}
 use Rattle.mp_model.specs.Load.{greatest, load, capacity}
+
+-- These are the entries of a list that has none below 0, as natural numbers.
+abbrev pub naturals_in : List ℤ → ℕ → ℕ
+naturals_in xs l = unsigned_abs (int_entry xs l)
 
 -- The flows f and g over d are those of a network where at each link the share total times the flow is what the movements into it bring by their shares, and d times what comes from elsewhere: its rate for f, and one unit of slack on each movement into it for g.
 pub record IsFlow (net : Network) (d : ℕ) (f g : ℕ → ℕ) : Type 0 where
