@@ -1,5 +1,5 @@
 -- The rates at a slack from their row.
-use Rattle.std.proofs.Common.{to_z-of_z, ◌≡◌, ℕ, zero, suc, ◌+◌, ◌≤◌, List, [], ◌∷◌, ◌++◌, length, ℤ, negsuc, ◌*ℤ◌, ◌≤ℤ◌, subst, Option, Some, None, Err, option_map, option_and_then, refl, ap, sym, ◌∙◌, arith, Bool, true, false}
+use Rattle.std.proofs.Common.{to_z-of_z, ◌≡◌, ℕ, zero, suc, ◌+◌, ◌≤◌, List, [], ◌∷◌, ◌++◌, length, ℤ, negsuc, ◌*ℤ◌, ◌≤ℤ◌, subst, Option, Some, None, Err, option_map, refl, ap, sym, ◌∙◌, arith, Bool, true, false}
 use Rattle.std.proofs.lemmas.List.{length-map}
 use Rattle.std.specs.Prelude.{if◌then◌else◌, ◌-◌, map, int_div, pos, nat_eq, nat_lt, ◌||◌, ◌^◌}
 use Rattle.mp_num.specs.Divisor.{divisor, divided, reduced}
@@ -8,7 +8,7 @@ use Rattle.mp_num.specs.Passing.{each}
 use Rattle.mp_model.specs.Network.{Network, movement_numbers}
 use Rattle.mp_flow.specs.Systems.{Flows, AreFlows}
 use Rattle.mp_flow.specs.declared.network.Place.{Place}
-use Rattle.mp_verdict.specs.Passing.{times, num}
+use Rattle.mp_num.specs.Operations.{times, num}
 use Rattle.mp_verdict.specs.Rates.{period_unit, need_at, rate_row, rates_in, rates_at, Rates}
 use Rattle.mp_verdict.specs.Stated.{Gives, Reached, PassesAt, at_place}
 use Rattle.mp_flow.specs.declared.network.CalcFault.{CalcFault}

@@ -1,5 +1,5 @@
 -- The values of a junction over all movements, and what they bring to the links.
-use Rattle.std.proofs.Common.{to_z-of_z, ◌≡◌, ◌≢◌, ◌==◌, ℕ, suc, ◌+◌, ◌-◌, ◌<◌, ◌≤◌, Bool, true, false, cond, List, [], ◌∷◌, ◌++◌, map, drop, get_or, length, ℤ, pos, Option, Some, None, IfSome, option_and_then, refl, ap, sym, ◌∙◌, subst, arith}
+use Rattle.std.proofs.Common.{to_z-of_z, ◌≡◌, ◌≢◌, ◌==◌, ℕ, ◌+◌, ◌-◌, ◌<◌, ◌≤◌, Bool, true, false, cond, List, [], ◌∷◌, ◌++◌, drop, get_or, length, ℤ, pos, Option, Some, None, IfSome, option_and_then, refl, ap, sym, ◌∙◌, subst, arith}
 use Rattle.std.proofs.lemmas.Bool.{eqb-true, eqb-false}
 use Rattle.std.proofs.lemmas.List.{drop_all, drop_more}
 use Rattle.mp_num.specs.Passing.{run}
@@ -8,7 +8,7 @@ use Rattle.mp_model.specs.NetworkRules.{IsNetwork}
 use Rattle.mp_model.specs.Certificate.{int_entry}
 use Rattle.mp_laws.proofs.Lists.{at_in}
 use Rattle.mp_flow.proofs.RowLoopLemmas.{Lining, lining_start, lining_more, lining_end, movement_out}
-use Rattle.mp_verdict.specs.Passing.{times, plus, num, added, sum_of}
+use Rattle.mp_num.specs.Operations.{times, plus, num, added, summed}
 use Rattle.mp_verdict.specs.Vector.{value_beside, link_value}
 use Rattle.mp_admit.proofs.TermLemmas.{among, has_numbers}
 
@@ -48,10 +48,10 @@ pub ruleset adding = (to_z-of_z)
 
 -- ---- what the values bring to a link
 pub record Bringing (term : ℕ → Option ℤ) (ks : List ℕ) (i : ℕ) (sum : ℤ) : Type 0 where
-  pub rest : sum_of term ks ≡ run (added term) sum (drop i ks)
+  pub rest : summed term ks ≡ run (added term) sum (drop i ks)
 
 pub bringing_start : (term : ℕ → Option ℤ) (ks : List ℕ) → Bringing term ks 0 (pos 0)
-unfolding sum_of
+unfolding summed
 bringing_start term ks = record { rest = refl }
 
 run_at : (term : ℕ → Option ℤ) (sum : ℤ) (ks : List ℕ) (i : ℕ) → i < length ks → run (added term) sum (drop i ks) ≡ option_and_then (λ t. run (added term) t (drop (i + 1) ks)) (plus (Some sum) (term (get_or ks i 0)))
@@ -61,21 +61,21 @@ run_at term sum ks i h = rw (drop_more ks i 0 h) refl
 pub bringing_more : (term : ℕ → Option ℤ) (ks : List ℕ) (i : ℕ) (sum next n : ℤ) → n ≡ next → Bringing term ks i sum → i < length ks → plus (Some sum) (term (get_or ks i 0)) ≡ Some next → Bringing term ks (i + 1) n
 bringing_more term ks i sum next n w s h e = record { rest = s.rest ∙ run_at term sum ks i h ∙ ap (option_and_then (λ t. run (added term) t (drop (i + 1) ks))) (e ∙ ap Some (sym w)) }
 
-pub bringing_fails : (term : ℕ → Option ℤ) (ks : List ℕ) (i : ℕ) (sum : ℤ) → Bringing term ks i sum → i < length ks → plus (Some sum) (term (get_or ks i 0)) ≡ None → sum_of term ks ≡ None
+pub bringing_fails : (term : ℕ → Option ℤ) (ks : List ℕ) (i : ℕ) (sum : ℤ) → Bringing term ks i sum → i < length ks → plus (Some sum) (term (get_or ks i 0)) ≡ None → summed term ks ≡ None
 bringing_fails term ks i sum s h e = s.rest ∙ run_at term sum ks i h ∙ ap (option_and_then (λ t. run (added term) t (drop (i + 1) ks))) e
 
-pub bringing_end : (term : ℕ → Option ℤ) (ks : List ℕ) (i : ℕ) (sum : ℤ) → Bringing term ks i sum → length ks ≤ i → sum_of term ks ≡ Some sum
+pub bringing_end : (term : ℕ → Option ℤ) (ks : List ℕ) (i : ℕ) (sum : ℤ) → Bringing term ks i sum → length ks ≤ i → summed term ks ≡ Some sum
 unfolding run
 bringing_end term ks i sum s h = s.rest ∙ rw (drop_all i ks h) refl
 
 pub link_fails : (net : Network) (values : List ℤ) (l : ℕ) (ks : List ℕ) (i : ℕ) (sum : ℤ) → Bringing (λ k. times (num (share_of net k)) (Some (int_entry values k))) ks i sum → ks ≡ out_of net l → i < length ks →
     plus (Some sum) (times (num (share_of net (get_or ks i 0))) (Some (int_entry values (get_or ks i 0)))) ≡ None → link_value net values l ≡ None
 unfolding link_value
-link_fails net values l ks i sum s e h n = ap (sum_of (λ k. times (num (share_of net k)) (Some (int_entry values k)))) (sym e) ∙ bringing_fails (λ k. times (num (share_of net k)) (Some (int_entry values k))) ks i sum s h n
+link_fails net values l ks i sum s e h n = ap (summed (λ k. times (num (share_of net k)) (Some (int_entry values k)))) (sym e) ∙ bringing_fails (λ k. times (num (share_of net k)) (Some (int_entry values k))) ks i sum s h n
 
 pub link_end : (net : Network) (values : List ℤ) (l : ℕ) (ks : List ℕ) (i : ℕ) (sum : ℤ) → Bringing (λ k. times (num (share_of net k)) (Some (int_entry values k))) ks i sum → ks ≡ out_of net l → length ks ≤ i → link_value net values l ≡ Some sum
 unfolding link_value
-link_end net values l ks i sum s e h = ap (sum_of (λ k. times (num (share_of net k)) (Some (int_entry values k)))) (sym e) ∙ bringing_end (λ k. times (num (share_of net k)) (Some (int_entry values k))) ks i sum s h
+link_end net values l ks i sum s e h = ap (summed (λ k. times (num (share_of net k)) (Some (int_entry values k)))) (sym e) ∙ bringing_end (λ k. times (num (share_of net k)) (Some (int_entry values k))) ks i sum s h
 
 pub ruleset bringing = (to_z-of_z, movement_out, bringing_start)
 

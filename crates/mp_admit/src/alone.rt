@@ -4,7 +4,7 @@ ghost use Rattle.mp_model.specs.Network.{flow_of, junction_at, own};
 ghost use Rattle.mp_model.specs.NetworkRules.{IsNetwork};
 ghost use Rattle.mp_flow.specs.Systems.{AreFlows};
 ghost use Rattle.mp_flow.specs.Calculating.{flows_of};
-ghost use Rattle.mp_verdict.specs.Passing.{times, less, num};
+ghost use Rattle.mp_num.specs.Operations.{times, less, num};
 ghost use Rattle.mp_verdict.specs.Rates.{period_unit, rate_need, unit_need};
 ghost use Rattle.mp_verdict.specs.Game.{slack_alone, alone, is_lower, tried, all_tried};
 ghost use Rattle.mp_verdict.specs.Stated.{Gives, at_place};
@@ -19,7 +19,7 @@ use std::alloc::{AllocError, Global};
 use std::cmp::Ordering;
 
 /// What is left of a period's flow of movement `k` alone beside its rate.
-#[tactic(auto, using(crate::proofs::TermLemmas::terms), unfolding(mp_verdict::specs::Passing::times, mp_verdict::specs::Passing::less))]
+#[tactic(auto, using(crate::proofs::TermLemmas::terms), unfolding(mp_num::specs::Operations::times, mp_num::specs::Operations::less))]
 fn free_alone(net: &Net, flows: &FlowPair, k: MovementNo) -> Option<i128>
     requires network { IsNetwork net.now }
     requires flows { AreFlows net.now (flows_of flows.now) }
@@ -31,7 +31,7 @@ fn free_alone(net: &Net, flows: &FlowPair, k: MovementNo) -> Option<i128>
 }
 
 /// What a unit of slack takes of movement `k`, over a rate length.
-#[tactic(auto, using(crate::proofs::TermLemmas::terms), unfolding(mp_verdict::specs::Passing::times))]
+#[tactic(auto, using(crate::proofs::TermLemmas::terms), unfolding(mp_num::specs::Operations::times))]
 fn unit_alone(net: &Net, flows: &FlowPair, k: MovementNo) -> Option<i128>
     requires network { IsNetwork net.now }
     requires flows { AreFlows net.now (flows_of flows.now) }

@@ -6,7 +6,7 @@ ghost use Rattle.mp_num.specs.Divisor.{reduced};
 ghost use Rattle.mp_num.specs.Passing.{each};
 ghost use Rattle.mp_flow.specs.Systems.{AreFlows};
 ghost use Rattle.mp_flow.specs.Calculating.{flows_of};
-ghost use Rattle.mp_verdict.specs.Passing.{times};
+ghost use Rattle.mp_num.specs.Operations.{times};
 ghost use Rattle.mp_admit.specs.Lists.{before};
 ghost use Rattle.mp_verdict.specs.Stated.{Gives, at_place};
 ghost use Rattle.mp_verdict.specs.Rates.{period_unit, rate_need, unit_need, need_at, rates_in, rates_at};
@@ -17,7 +17,7 @@ use mp_num::{Frac, add, mul, row_gcd};
 use std::alloc::Global;
 
 /// What stands for one vehicle per period: the share total times the rate length times the denominator of the flows.
-#[tactic(auto, using(crate::proofs::TermLemmas::terms), unfolding(mp_verdict::specs::Rates::period_unit, mp_verdict::specs::Passing::times))]
+#[tactic(auto, using(crate::proofs::TermLemmas::terms), unfolding(mp_verdict::specs::Rates::period_unit, mp_num::specs::Operations::times))]
 pub fn period_unit(net: &Net, flows: &FlowPair) -> Option<i128>
     ensures { result ≡ period_unit net.now (flows_of flows.now) }
 {
@@ -28,7 +28,7 @@ pub fn period_unit(net: &Net, flows: &FlowPair) -> Option<i128>
 }
 
 /// What the rates of the links bring to movement `k`: its share of the flow of its link.
-#[tactic(auto, using(crate::proofs::TermLemmas::terms), unfolding(mp_verdict::specs::Rates::rate_need, mp_verdict::specs::Passing::times))]
+#[tactic(auto, using(crate::proofs::TermLemmas::terms), unfolding(mp_verdict::specs::Rates::rate_need, mp_num::specs::Operations::times))]
 pub fn rate_need(net: &Net, flows: &FlowPair, k: MovementNo) -> Option<i128>
     requires network { IsNetwork net.now }
     requires flows { AreFlows net.now (flows_of flows.now) }
@@ -41,7 +41,7 @@ pub fn rate_need(net: &Net, flows: &FlowPair, k: MovementNo) -> Option<i128>
 }
 
 /// What one unit of slack on every movement brings to movement `k`.
-#[tactic(auto, using(crate::proofs::TermLemmas::terms), unfolding(mp_verdict::specs::Rates::unit_need, mp_verdict::specs::Passing::times, mp_verdict::specs::Passing::plus))]
+#[tactic(auto, using(crate::proofs::TermLemmas::terms), unfolding(mp_verdict::specs::Rates::unit_need, mp_num::specs::Operations::times, mp_num::specs::Operations::plus))]
 pub fn unit_need(net: &Net, flows: &FlowPair, k: MovementNo) -> Option<i128>
     requires network { IsNetwork net.now }
     requires flows { AreFlows net.now (flows_of flows.now) }
@@ -56,7 +56,7 @@ pub fn unit_need(net: &Net, flows: &FlowPair, k: MovementNo) -> Option<i128>
 }
 
 /// The need of movement `k` at the slack, before the rates are reduced.
-#[tactic(auto, using(crate::proofs::TermLemmas::terms), unfolding(mp_verdict::specs::Rates::need_at, mp_verdict::specs::Passing::times, mp_verdict::specs::Passing::plus))]
+#[tactic(auto, using(crate::proofs::TermLemmas::terms), unfolding(mp_verdict::specs::Rates::need_at, mp_num::specs::Operations::times, mp_num::specs::Operations::plus))]
 pub fn need_at(net: &Net, flows: &FlowPair, slack: &Frac, k: MovementNo) -> Option<i128>
     requires network { IsNetwork net.now }
     requires flows { AreFlows net.now (flows_of flows.now) }
@@ -69,7 +69,7 @@ pub fn need_at(net: &Net, flows: &FlowPair, slack: &Frac, k: MovementNo) -> Opti
 }
 
 /// The denominator at the slack, before the rates are reduced.
-#[tactic(auto, using(crate::proofs::TermLemmas::terms), unfolding(mp_verdict::specs::Passing::times))]
+#[tactic(auto, using(crate::proofs::TermLemmas::terms), unfolding(mp_num::specs::Operations::times))]
 fn whole_at(net: &Net, flows: &FlowPair, slack: &Frac) -> Option<i128>
     ensures { result ≡ times (period_unit net.now (flows_of flows.now)) (Some slack.now.den) }
 {
@@ -77,7 +77,7 @@ fn whole_at(net: &Net, flows: &FlowPair, slack: &Frac) -> Option<i128>
 }
 
 /// The excess at the slack, before the rates are reduced.
-#[tactic(auto, using(crate::proofs::TermLemmas::terms), unfolding(mp_verdict::specs::Passing::times))]
+#[tactic(auto, using(crate::proofs::TermLemmas::terms), unfolding(mp_num::specs::Operations::times))]
 fn excess_at(net: &Net, flows: &FlowPair, slack: &Frac) -> Option<i128>
     ensures { result ≡ times (period_unit net.now (flows_of flows.now)) (Some slack.now.num) }
 {

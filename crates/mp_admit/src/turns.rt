@@ -4,7 +4,8 @@ ghost use Rattle.mp_model.specs.Network.{junction_at, own};
 ghost use Rattle.mp_model.specs.NetworkRules.{IsNetwork};
 ghost use Rattle.mp_flow.specs.Systems.{AreFlows};
 ghost use Rattle.mp_flow.specs.Calculating.{flows_of};
-ghost use Rattle.mp_verdict.specs.Passing.{times, plus, less, num, summed};
+ghost use Rattle.mp_num.specs.Operations.{times, plus, less, num};
+ghost use Rattle.mp_verdict.specs.Game.{summed_beside};
 ghost use Rattle.mp_verdict.specs.Rates.{period_unit, rate_need, unit_need, rates_in};
 ghost use Rattle.mp_verdict.specs.Game.{turn_limit, is_over, slack_of, lowered, turn, played};
 ghost use Rattle.mp_verdict.specs.Stated.{Gives};
@@ -31,7 +32,7 @@ fn is_over(rates: &[i128], optimum: &Optimum) -> Option<bool>
 }
 
 /// The sum with what the rates bring to movement `k`, times its value.
-#[tactic(auto, using(crate::proofs::TermLemmas::terms), unfolding(mp_verdict::specs::Passing::times, mp_verdict::specs::Passing::plus))]
+#[tactic(auto, using(crate::proofs::TermLemmas::terms), unfolding(mp_num::specs::Operations::times, mp_num::specs::Operations::plus))]
 fn add_rate(net: &Net, flows: &FlowPair, k: MovementNo, value: i128, sum: i128) -> Option<i128>
     requires network { IsNetwork net.now }
     requires flows { AreFlows net.now (flows_of flows.now) }
@@ -43,7 +44,7 @@ fn add_rate(net: &Net, flows: &FlowPair, k: MovementNo, value: i128, sum: i128) 
 }
 
 /// The sum with what a unit of slack brings to movement `k`, times its value.
-#[tactic(auto, using(crate::proofs::TermLemmas::terms), unfolding(mp_verdict::specs::Passing::times, mp_verdict::specs::Passing::plus))]
+#[tactic(auto, using(crate::proofs::TermLemmas::terms), unfolding(mp_num::specs::Operations::times, mp_num::specs::Operations::plus))]
 fn add_unit(net: &Net, flows: &FlowPair, k: MovementNo, value: i128, sum: i128) -> Option<i128>
     requires network { IsNetwork net.now }
     requires flows { AreFlows net.now (flows_of flows.now) }
@@ -61,7 +62,7 @@ fn sum_rates(net: &Net, flows: &FlowPair, j: JunctionNo, values: &[i128]) -> Opt
     requires flows { AreFlows net.now (flows_of flows.now) }
     requires junction { (1 ≤ j) × (j ≤ length net.now.junctions) }
     requires size { length values.now ≡ length (own net.now (junction_at net.now j)) }
-    ensures { result ≡ summed (λ k z. times (rate_need net.now (flows_of flows.now) k) (Some z)) (pos 0) (own net.now (junction_at net.now j)) values.now }
+    ensures { result ≡ summed_beside (λ k z. times (rate_need net.now (flows_of flows.now) k) (Some z)) (pos 0) (own net.now (junction_at net.now j)) values.now }
 {
     let own = net.own(j);
     let mut sum = 0;
@@ -81,7 +82,7 @@ fn sum_units(net: &Net, flows: &FlowPair, j: JunctionNo, values: &[i128]) -> Opt
     requires flows { AreFlows net.now (flows_of flows.now) }
     requires junction { (1 ≤ j) × (j ≤ length net.now.junctions) }
     requires size { length values.now ≡ length (own net.now (junction_at net.now j)) }
-    ensures { result ≡ summed (λ k z. times (unit_need net.now (flows_of flows.now) k) (Some z)) (pos 0) (own net.now (junction_at net.now j)) values.now }
+    ensures { result ≡ summed_beside (λ k z. times (unit_need net.now (flows_of flows.now) k) (Some z)) (pos 0) (own net.now (junction_at net.now j)) values.now }
 {
     let own = net.own(j);
     let mut sum = 0;
@@ -95,26 +96,26 @@ fn sum_units(net: &Net, flows: &FlowPair, j: JunctionNo, values: &[i128]) -> Opt
 }
 
 /// What the values leave of a period beside the rates.
-#[tactic(auto, using(crate::proofs::TermLemmas::terms), unfolding(mp_verdict::specs::Passing::times, mp_verdict::specs::Passing::less))]
+#[tactic(auto, using(crate::proofs::TermLemmas::terms), unfolding(mp_num::specs::Operations::times, mp_num::specs::Operations::less))]
 fn free_of(net: &Net, flows: &FlowPair, j: JunctionNo, values: &[i128], den: i128) -> Option<i128>
     requires network { IsNetwork net.now }
     requires flows { AreFlows net.now (flows_of flows.now) }
     requires junction { (1 ≤ j) × (j ≤ length net.now.junctions) }
     requires size { length values.now ≡ length (own net.now (junction_at net.now j)) }
-    ensures { result ≡ less (times (period_unit net.now (flows_of flows.now)) (Some den)) (summed (λ k z. times (rate_need net.now (flows_of flows.now) k) (Some z)) (pos 0) (own net.now (junction_at net.now j)) values.now) }
+    ensures { result ≡ less (times (period_unit net.now (flows_of flows.now)) (Some den)) (summed_beside (λ k z. times (rate_need net.now (flows_of flows.now) k) (Some z)) (pos 0) (own net.now (junction_at net.now j)) values.now) }
 {
     let whole = mul(period_unit(net, flows)?, den)?;
     sub(whole, sum_rates(net, flows, j, values)?)
 }
 
 /// What a unit of slack takes of the values, over a rate length.
-#[tactic(auto, using(crate::proofs::TermLemmas::terms), unfolding(mp_verdict::specs::Passing::times))]
+#[tactic(auto, using(crate::proofs::TermLemmas::terms), unfolding(mp_num::specs::Operations::times))]
 fn unit_of(net: &Net, flows: &FlowPair, j: JunctionNo, values: &[i128]) -> Option<i128>
     requires network { IsNetwork net.now }
     requires flows { AreFlows net.now (flows_of flows.now) }
     requires junction { (1 ≤ j) × (j ≤ length net.now.junctions) }
     requires size { length values.now ≡ length (own net.now (junction_at net.now j)) }
-    ensures { result ≡ times (num net.now.per) (summed (λ k z. times (unit_need net.now (flows_of flows.now) k) (Some z)) (pos 0) (own net.now (junction_at net.now j)) values.now) }
+    ensures { result ≡ times (num net.now.per) (summed_beside (λ k z. times (unit_need net.now (flows_of flows.now) k) (Some z)) (pos 0) (own net.now (junction_at net.now j)) values.now) }
 {
     mul(i128::from(net.per()), sum_units(net, flows, j, values)?)
 }

@@ -6,7 +6,7 @@ ghost use Rattle.mp_model.specs.Certificate.{int_entry};
 ghost use Rattle.mp_num.specs.Passing.{each};
 ghost use Rattle.mp_flow.specs.Systems.{onward};
 ghost use Rattle.mp_flow.specs.Calculating.{worths_of};
-ghost use Rattle.mp_verdict.specs.Passing.{times, plus, num};
+ghost use Rattle.mp_num.specs.Operations.{times, plus, num};
 ghost use Rattle.mp_verdict.specs.Vector.{value_beside, spread, link_value, link_values, vector_entry, vector_of};
 ghost use Rattle.mp_verdict.specs.Stated.{Gives, at_place};
 ghost use Rattle.mp_verdict.specs.Laws.{IsNatural};
@@ -64,7 +64,7 @@ fn spread(alloc: Global, net: &Net, standing: &Standing) -> Result<Vec<i128>, Al
 }
 
 /// The sum with the share of movement `k` times its value.
-#[tactic(auto, using(crate::proofs::SpreadLemmas::adding), unfolding(mp_verdict::specs::Passing::times, mp_verdict::specs::Passing::plus))]
+#[tactic(auto, using(crate::proofs::SpreadLemmas::adding), unfolding(mp_num::specs::Operations::times, mp_num::specs::Operations::plus))]
 fn add_share(net: &Net, values: &[i128], k: MovementNo, sum: i128) -> Option<i128>
     requires known { (1 ≤ k) × (k ≤ length net.now.movements) }
     requires size { length values.now ≡ length net.now.movements }
@@ -125,7 +125,7 @@ fn onward(net: &Net, worths: &Flow, k: MovementNo) -> i128
 }
 
 /// The number of movement `k` before the vector is reduced.
-#[tactic(auto, using(crate::proofs::SpreadLemmas::adding), unfolding(mp_verdict::specs::Vector::vector_entry, mp_verdict::specs::Passing::times, mp_verdict::specs::Passing::plus))]
+#[tactic(auto, using(crate::proofs::SpreadLemmas::adding), unfolding(mp_verdict::specs::Vector::vector_entry, mp_num::specs::Operations::times, mp_num::specs::Operations::plus))]
 fn vector_entry(net: &Net, values: &[i128], worths: &Flow, k: MovementNo) -> Option<i128>
     requires network { IsNetwork net.now }
     requires known { (1 ≤ k) × (k ≤ length net.now.movements) }

@@ -5,7 +5,8 @@ use Rattle.std.proofs.lemmas.Option.{option_and_then_some, same_Some}
 use Rattle.mp_model.specs.Sums.{int_sum_by}
 use Rattle.mp_num.specs.Passing.{run}
 use Rattle.mp_num.proofs.CheckedLemmas.{within_some}
-use Rattle.mp_cert.specs.Passing.{times, plus, less, added, summed, at_most}
+use Rattle.mp_num.specs.Operations.{times, plus, less, added, summed}
+use Rattle.mp_cert.specs.Rules.{at_most}
 use Rattle.mp_cert.specs.Rules.{at_least}
 
 -- where the number is there, it is v

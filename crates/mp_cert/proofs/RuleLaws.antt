@@ -9,7 +9,7 @@ use Rattle.mp_cert.proofs.PlaceLemmas.{in_list}
 use Rattle.mp_model.specs.Network.{Network, junction_at, no_junction, junction_numbers, junction_of_movement, from_of, share_of, flow_of, rate_before, into_link, has}
 use Rattle.mp_model.specs.Certificate.{Cert, int_entry, rate_of, mix_at, no_mix, HasLengths, parts_with, rate_into, MassRule, ServeRule, BalanceRule}
 use Rattle.mp_num.specs.Passing.{run}
-use Rattle.mp_cert.specs.Passing.{plus}
+use Rattle.mp_num.specs.Operations.{plus}
 use Rattle.mp_cert.specs.Rules.{mass_holds, part_added, parts_for, served_at, serve_holds, inflow, coming, need, balance_holds, holds}
 use Rattle.mp_cert.specs.FirstBroken.{Keeps}
 use Rattle.mp_cert.specs.declared.types.CertFault.{CertFault}

@@ -1,11 +1,11 @@
 -- Loops that form a running value, one step an element.
-use Rattle.std.proofs.Common.{◌≡◌, ℕ, suc, ◌+◌, ◌<◌, ◌≤◌, List, [], ◌∷◌, length, get_or, drop, Option, Some, None, option_and_then, ℤ, pos, refl, ap, sym, ◌∙◌, arith, to_z-of_z}
+use Rattle.std.proofs.Common.{◌≡◌, ℕ, ◌+◌, ◌<◌, ◌≤◌, List, length, get_or, drop, Option, Some, None, option_and_then, ℤ, pos, refl, ap, ◌∙◌, arith, to_z-of_z}
 use Rattle.std.proofs.lemmas.List.{drop_more, drop_all}
 use Rattle.std.proofs.lemmas.List.FromFn.{length-range_with_len, get_or-range_with_len}
 use Rattle.mp_model.specs.Network.{numbers_to}
 use Rattle.mp_num.specs.Passing.{run}
 use Rattle.mp_num.proofs.OutcomeLemmas.{run_cons}
-use Rattle.mp_cert.specs.Passing.{added, summed}
+use Rattle.mp_num.specs.Operations.{added, summed}
 
 -- what is left gives what the whole gives
 pub record Running {X S : Type 0} (step : S → X → Option S) (first : S) (xs : List X) (i : ℕ) (now : S) : Type 0 where

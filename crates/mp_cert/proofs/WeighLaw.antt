@@ -11,7 +11,7 @@ use Rattle.mp_model.specs.Pressure.{queued_downstream, positive_weight, pressure
 use Rattle.mp_model.specs.Load.{greatest, load, junction_capacity, capacity}
 use Rattle.mp_model.specs.Certificate.{int_entry}
 use Rattle.mp_num.specs.Passing.{run}
-use Rattle.mp_cert.specs.Passing.{times, plus, num, summed}
+use Rattle.mp_num.specs.Operations.{times, plus, num, summed}
 use Rattle.mp_cert.specs.Weighing.{brought, load_formed, counted, behind_formed, weight_formed, press_added, pressed, pressure_formed, greater, stage_taken, junction_formed, served_formed, weighed}
 use Rattle.mp_cert.specs.declared.types.Weighed.{Weighed}
 use Rattle.mp_cert.proofs.Gives.{Gives, gives-some, gives-times, gives-plus, gives-less, gives-same, gives-then, gives-summed}

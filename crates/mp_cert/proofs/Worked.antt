@@ -5,7 +5,8 @@ use Rattle.mp_num.specs.Passing.{run}
 use Rattle.mp_model.specs.Certificate.{Cert}
 use Rattle.mp_model.specs.Worked.{two_approaches, two_approaches_at, two_approaches_cert}
 use Rattle.mp_cert.specs.Checking.{first_of, check_outcome}
-use Rattle.mp_cert.specs.Passing.{times, plus, less, summed, at_most}
+use Rattle.mp_num.specs.Operations.{times, plus, less, summed}
+use Rattle.mp_cert.specs.Rules.{at_most}
 use Rattle.mp_cert.specs.Rules.{mass_holds, part_added, parts_for, served_at, inflow, coming, need, balance_holds}
 use Rattle.mp_cert.specs.Weighing.{brought, load_formed, counted, weight_formed, press_added, pressed, pressure_formed, stage_taken, junction_formed, served_formed, weighed}
 use Rattle.mp_cert.specs.declared.types.CertFault.TheVariants.{D, E, H, Whole, Part, Mass, Serve, Balance, Overflow}

@@ -1,6 +1,5 @@
 pub mod Checking
 pub mod FirstBroken
-pub mod Passing
 pub mod Rules
 pub mod TextFaults
 pub mod TextLaws

@@ -1,11 +1,15 @@
 -- Each rule of a certificate as a comparison of two calculations.
-use Rattle.std.specs.Prelude.{ℕ, ◌*◌, ℤ, pos, Bool, true, not, int_lt, if◌then◌else◌, Option, Some}
+use Rattle.std.specs.Prelude.{ℕ, ◌*◌, ℤ, pos, Bool, true, not, int_lt, if◌then◌else◌, Option, Some, option_map, option_and_then}
 use Rattle.mp_model.specs.Network.{Network, junction_at, stage_at, stage_numbers, junction_of_movement, from_of, share_of, flow_of, rate_before, into_link, has}
 use Rattle.mp_model.specs.Certificate.{Cert, int_entry, rate_of, mix_at}
 use Rattle.mp_num.specs.Passing.{run}
-use Rattle.mp_cert.specs.Passing.{times, plus, num, summed, at_most}
+use Rattle.mp_num.specs.Operations.{times, plus, num, summed}
 use Rattle.mp_cert.specs.declared.types.CertFault.{CertFault}
 use Rattle.mp_cert.specs.declared.types.CertFault.TheVariants.{D, E, H, Whole, Part, Mass, Serve, Balance, Overflow}
+
+-- A number is at most another, where both are there.
+unfoldable pub at_most : Option ℤ → Option ℤ → Option Bool
+at_most a b = option_and_then (λ x. option_map (λ y. not (int_lt y x)) b) a
 
 -- A number of the certificate is at least a limit.
 abbrev pub at_least : ℤ → ℤ → Option Bool

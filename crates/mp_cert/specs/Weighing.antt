@@ -3,7 +3,7 @@ use Rattle.std.specs.Prelude.{◌≡◌, ℕ, ℤ, pos, int_lt, if◌then◌else
 use Rattle.mp_model.specs.Network.{Network, movement_numbers, junction_numbers, stage_numbers, junction_at, stage_at, share_of, flow_of, rate_before, downstream}
 use Rattle.mp_model.specs.Certificate.{int_entry}
 use Rattle.mp_num.specs.Passing.{run}
-use Rattle.mp_cert.specs.Passing.{times, plus, less, num, summed}
+use Rattle.mp_num.specs.Operations.{times, plus, less, num, summed}
 use Rattle.mp_cert.specs.declared.types.Weighed.{Weighed}
 use Rattle.mp_cert.specs.declared.types.Overflow.{Overflow}
 

@@ -3,7 +3,7 @@ ghost use Rattle.std.specs.Prelude.{◌≡◌, ◌≤◌, ◌*◌, pos, length, 
 ghost use Rattle.mp_model.specs.Network.{junction_at};
 ghost use Rattle.mp_model.specs.NetworkRules.{IsAcceptable};
 ghost use Rattle.mp_model.specs.Certificate.{int_entry, rate_of, mix_at, HasLengths};
-ghost use Rattle.mp_cert.specs.Passing.{summed};
+ghost use Rattle.mp_num.specs.Operations.{summed};
 ghost use Rattle.mp_cert.specs.Rules.{at_least, mass_holds, part_added, parts_for, served_at, serve_holds, inflow, coming, need, balance_holds};
 ghost use Rattle.mp_cert.specs.Views.{mix_of, cert_of};
 
@@ -31,7 +31,7 @@ pub fn mix_at(cert: &Cert, j: JunctionNo) -> &Mix
 }
 
 /// The sum of the numbers.
-#[tactic(auto, using(crate::proofs::RunLemmas::running), unfolding(crate::specs::Passing::plus))]
+#[tactic(auto, using(crate::proofs::RunLemmas::running), unfolding(mp_num::specs::Operations::plus))]
 fn sum_of(numbers: &[i128]) -> Option<i128>
     ensures { result ≡ summed (λ part. Some part) numbers.now }
 {
@@ -46,7 +46,7 @@ fn sum_of(numbers: &[i128]) -> Option<i128>
 }
 
 /// Whether the parts of the junction sum to at most its whole times the denominator.
-#[tactic(auto, using(crate::proofs::RunLemmas::terms), unfolding(crate::specs::Passing::times, crate::specs::Passing::at_most, crate::specs::Rules::mass_holds))]
+#[tactic(auto, using(crate::proofs::RunLemmas::terms), unfolding(mp_num::specs::Operations::times, crate::specs::Rules::at_most, crate::specs::Rules::mass_holds))]
 pub fn mass_holds(cert: &Cert, j: JunctionNo) -> Option<bool>
     requires { (1 ≤ j) × (j ≤ length cert.now.mix) }
     ensures { result ≡ mass_holds (cert_of cert.now) j }
@@ -68,7 +68,7 @@ pub fn part(net: &Net, cert: &Cert, j: JunctionNo, s: StageNo) -> i128
 }
 
 /// The sum with the part of stage `s` of the junction, where the stage holds the movement.
-#[tactic(auto, using(crate::proofs::RunLemmas::terms), unfolding(crate::specs::Passing::plus, crate::specs::Rules::part_added))]
+#[tactic(auto, using(crate::proofs::RunLemmas::terms), unfolding(mp_num::specs::Operations::plus, crate::specs::Rules::part_added))]
 fn add_part(
     net: &Net,
     cert: &Cert,
@@ -108,7 +108,7 @@ fn parts_for(net: &Net, cert: &Cert, j: JunctionNo, k: MovementNo) -> Option<i12
 }
 
 /// Whether the parts of the junction's stages that hold the movement serve its rate.
-#[tactic(auto, using(crate::proofs::RunLemmas::terms), unfolding(crate::specs::Passing::times, crate::specs::Passing::at_most, crate::specs::Rules::served_at))]
+#[tactic(auto, using(crate::proofs::RunLemmas::terms), unfolding(mp_num::specs::Operations::times, crate::specs::Rules::at_most, crate::specs::Rules::served_at))]
 fn served_at(net: &Net, cert: &Cert, j: JunctionNo, k: MovementNo) -> Option<bool>
     requires lengths { HasLengths net.now (cert_of cert.now) }
     requires junction { (1 ≤ j) × (j ≤ length net.now.junctions) }
@@ -132,7 +132,7 @@ pub fn serve_holds(net: &Net, cert: &Cert, k: MovementNo) -> Option<bool>
 }
 
 /// The sum of the rates of the movements into the link that the movement leaves.
-#[tactic(auto, using(crate::proofs::RunLemmas::running), unfolding(crate::specs::Passing::plus, crate::specs::Rules::inflow))]
+#[tactic(auto, using(crate::proofs::RunLemmas::running), unfolding(mp_num::specs::Operations::plus, crate::specs::Rules::inflow))]
 fn inflow(net: &Net, cert: &Cert, k: MovementNo) -> Option<i128>
     requires acceptable { IsAcceptable net.now }
     requires lengths { HasLengths net.now (cert_of cert.now) }
@@ -150,7 +150,7 @@ fn inflow(net: &Net, cert: &Cert, k: MovementNo) -> Option<i128>
 }
 
 /// What comes to the link that the movement leaves.
-#[tactic(auto, using(crate::proofs::RunLemmas::terms), unfolding(crate::specs::Passing::times, crate::specs::Passing::plus, crate::specs::Rules::coming))]
+#[tactic(auto, using(crate::proofs::RunLemmas::terms), unfolding(mp_num::specs::Operations::times, mp_num::specs::Operations::plus, crate::specs::Rules::coming))]
 fn coming(net: &Net, cert: &Cert, k: MovementNo) -> Option<i128>
     requires acceptable { IsAcceptable net.now }
     requires lengths { HasLengths net.now (cert_of cert.now) }
@@ -170,7 +170,7 @@ fn scale(net: &Net) -> i128
 }
 
 /// What the movement needs: its share of what comes, and the excess.
-#[tactic(auto, using(crate::proofs::RunLemmas::terms), unfolding(crate::specs::Passing::times, crate::specs::Passing::plus, crate::specs::Rules::need))]
+#[tactic(auto, using(crate::proofs::RunLemmas::terms), unfolding(mp_num::specs::Operations::times, mp_num::specs::Operations::plus, crate::specs::Rules::need))]
 fn need(net: &Net, cert: &Cert, k: MovementNo) -> Option<i128>
     requires acceptable { IsAcceptable net.now }
     requires lengths { HasLengths net.now (cert_of cert.now) }
@@ -183,7 +183,7 @@ fn need(net: &Net, cert: &Cert, k: MovementNo) -> Option<i128>
 }
 
 /// Whether the movement's rate is at least what it needs.
-#[tactic(auto, using(crate::proofs::RunLemmas::terms), unfolding(crate::specs::Passing::times, crate::specs::Passing::at_most, crate::specs::Rules::balance_holds))]
+#[tactic(auto, using(crate::proofs::RunLemmas::terms), unfolding(mp_num::specs::Operations::times, crate::specs::Rules::at_most, crate::specs::Rules::balance_holds))]
 pub fn balance_holds(net: &Net, cert: &Cert, k: MovementNo) -> Option<bool>
     requires acceptable { IsAcceptable net.now }
     requires lengths { HasLengths net.now (cert_of cert.now) }

@@ -4,7 +4,7 @@ ghost use Rattle.mp_model.specs.Network.{junction_at, junction_numbers, stage_at
 ghost use Rattle.mp_model.specs.NetworkRules.{IsAcceptable};
 ghost use Rattle.mp_model.specs.Certificate.{int_entry};
 ghost use Rattle.mp_model.specs.Load.{load, capacity};
-ghost use Rattle.mp_cert.specs.Passing.{added, summed};
+ghost use Rattle.mp_num.specs.Operations.{added, summed};
 ghost use Rattle.mp_cert.specs.Weighing.{brought, load_formed, counted, behind_formed, weight_formed, press_added, pressed, pressure_formed, stage_taken, junction_formed, served_formed, weighed, WeighsTo};
 ghost use Rattle.mp_cert.specs.Views.{vector_of};
 
@@ -22,7 +22,7 @@ fn number(p: &[i128], k: MovementNo) -> i128
 }
 
 /// What the movement brings.
-#[tactic(auto, using(crate::proofs::RunLemmas::terms), unfolding(crate::specs::Passing::times, crate::specs::Weighing::brought))]
+#[tactic(auto, using(crate::proofs::RunLemmas::terms), unfolding(mp_num::specs::Operations::times, crate::specs::Weighing::brought))]
 fn brought(net: &Net, p: &[i128], k: MovementNo) -> Option<i128>
     requires acceptable { IsAcceptable net.now }
     requires lengths { length p.now ≡ length net.now.movements }
@@ -34,7 +34,7 @@ fn brought(net: &Net, p: &[i128], k: MovementNo) -> Option<i128>
 }
 
 /// The sum with what the movement brings.
-#[tactic(auto, using(crate::proofs::RunLemmas::terms), unfolding(crate::specs::Passing::plus))]
+#[tactic(auto, using(crate::proofs::RunLemmas::terms), unfolding(mp_num::specs::Operations::plus))]
 fn add_brought(net: &Net, p: &[i128], sum: i128, k: MovementNo) -> Option<i128>
     requires acceptable { IsAcceptable net.now }
     requires lengths { length p.now ≡ length net.now.movements }
@@ -45,7 +45,7 @@ fn add_brought(net: &Net, p: &[i128], sum: i128, k: MovementNo) -> Option<i128>
 }
 
 /// The load: the sum of what the movements bring.
-#[tactic(auto, using(crate::proofs::RunLemmas::counting), unfolding(crate::specs::Passing::summed, crate::specs::Weighing::load_formed))]
+#[tactic(auto, using(crate::proofs::RunLemmas::counting), unfolding(mp_num::specs::Operations::summed, crate::specs::Weighing::load_formed))]
 fn load(net: &Net, p: &[i128]) -> Option<i128>
     requires acceptable { IsAcceptable net.now }
     requires lengths { length p.now ≡ length net.now.movements }
@@ -62,7 +62,7 @@ fn load(net: &Net, p: &[i128]) -> Option<i128>
 }
 
 /// The sum with what the movement counts behind others.
-#[tactic(auto, using(crate::proofs::RunLemmas::terms), unfolding(crate::specs::Passing::times, crate::specs::Passing::plus, crate::specs::Weighing::counted))]
+#[tactic(auto, using(crate::proofs::RunLemmas::terms), unfolding(mp_num::specs::Operations::times, mp_num::specs::Operations::plus, crate::specs::Weighing::counted))]
 fn add_counted(net: &Net, p: &[i128], sum: i128, j: MovementNo) -> Option<i128>
     requires lengths { length p.now ≡ length net.now.movements }
     requires movement { (1 ≤ j) × (j ≤ length net.now.movements) }
@@ -102,7 +102,7 @@ fn behind(net: &Net, p: &[i128], k: MovementNo) -> Option<i128>
 }
 
 /// The weight of the movement, with the vector in place of the queues.
-#[tactic(auto, using(crate::proofs::RunLemmas::terms), unfolding(crate::specs::Passing::times, crate::specs::Passing::less, crate::specs::Weighing::weight_formed))]
+#[tactic(auto, using(crate::proofs::RunLemmas::terms), unfolding(mp_num::specs::Operations::times, mp_num::specs::Operations::less, crate::specs::Weighing::weight_formed))]
 fn weight(net: &Net, p: &[i128], k: MovementNo) -> Option<i128>
     requires acceptable { IsAcceptable net.now }
     requires lengths { length p.now ≡ length net.now.movements }
@@ -114,7 +114,7 @@ fn weight(net: &Net, p: &[i128], k: MovementNo) -> Option<i128>
 }
 
 /// The sum with the movement's flow times its weight, where the weight is above 0.
-#[tactic(auto, using(crate::proofs::RunLemmas::terms), unfolding(crate::specs::Passing::times, crate::specs::Passing::plus, crate::specs::Weighing::press_added))]
+#[tactic(auto, using(crate::proofs::RunLemmas::terms), unfolding(mp_num::specs::Operations::times, mp_num::specs::Operations::plus, crate::specs::Weighing::press_added))]
 fn add_press(net: &Net, k: MovementNo, sum: i128, weight: i128) -> Option<i128>
     requires { (1 ≤ k) × (k ≤ length net.now.movements) }
     ensures { result ≡ press_added net.now k sum weight }
@@ -189,7 +189,7 @@ fn capacity_at(net: &Net, p: &[i128], j: JunctionNo) -> Option<i128>
 }
 
 /// The sum with the capacity of the junction.
-#[tactic(auto, using(crate::proofs::RunLemmas::terms), unfolding(crate::specs::Passing::plus))]
+#[tactic(auto, using(crate::proofs::RunLemmas::terms), unfolding(mp_num::specs::Operations::plus))]
 fn add_capacity(net: &Net, p: &[i128], sum: i128, j: JunctionNo) -> Option<i128>
     requires acceptable { IsAcceptable net.now }
     requires lengths { length p.now ≡ length net.now.movements }
@@ -200,7 +200,7 @@ fn add_capacity(net: &Net, p: &[i128], sum: i128, j: JunctionNo) -> Option<i128>
 }
 
 /// The sum of the capacities of the junctions.
-#[tactic(auto, using(crate::proofs::RunLemmas::counting), unfolding(crate::specs::Passing::summed))]
+#[tactic(auto, using(crate::proofs::RunLemmas::counting), unfolding(mp_num::specs::Operations::summed))]
 fn capacity(net: &Net, p: &[i128]) -> Option<i128>
     requires acceptable { IsAcceptable net.now }
     requires lengths { length p.now ≡ length net.now.movements }
@@ -217,7 +217,7 @@ fn capacity(net: &Net, p: &[i128]) -> Option<i128>
 }
 
 /// What the junctions serve: their capacities times the rate length.
-#[tactic(auto, using(crate::proofs::RunLemmas::terms), unfolding(crate::specs::Passing::times, crate::specs::Weighing::served_formed))]
+#[tactic(auto, using(crate::proofs::RunLemmas::terms), unfolding(mp_num::specs::Operations::times, crate::specs::Weighing::served_formed))]
 fn served(net: &Net, p: &[i128]) -> Option<i128>
     requires acceptable { IsAcceptable net.now }
     requires lengths { length p.now ≡ length net.now.movements }

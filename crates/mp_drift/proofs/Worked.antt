@@ -6,7 +6,8 @@ use Rattle.mp_model.specs.Certificate.{Cert}
 use Rattle.mp_model.specs.Network.{Network}
 use Rattle.mp_model.specs.Worked.{two_approaches}
 use Rattle.mp_cert.specs.Checking.{first_of}
-use Rattle.mp_cert.specs.Passing.{times, plus, summed, at_most}
+use Rattle.mp_num.specs.Operations.{times, plus, summed}
+use Rattle.mp_cert.specs.Rules.{at_most}
 use Rattle.mp_cert.specs.Rules.{mass_holds, part_added, parts_for, served_at, inflow, coming, need, balance_holds}
 use Rattle.mp_cert.specs.declared.types.CertFault.TheVariants.{Overflow}
 use Rattle.mp_drift.specs.Stated.{fitting, threshold_from, greatest_from}

@@ -9,7 +9,8 @@ use Rattle.mp_model.specs.Network.{Network, Junction, movement_numbers, own, sta
 use Rattle.mp_laws.proofs.Sums.{sum_by-same_at, sum_by-zero, sum_by-same, there}
 use Rattle.mp_laws.proofs.Distinct.{IsAbsent, one_at, range_distinct, distinct_filter}
 use Rattle.mp_laws.proofs.Lists.{AllOf-map, filter_has}
-use Rattle.mp_verdict.specs.Passing.{plus, summed}
+use Rattle.mp_num.specs.Operations.{plus}
+use Rattle.mp_verdict.specs.Game.{summed_beside}
 use Rattle.mp_verdict.proofs.Plain.{values_of}
 use Rattle.mp_verdict.proofs.Falls.{own_sum}
 use Rattle.mp_verdict.proofs.FlowNumbers.{abs_is}
@@ -48,8 +49,8 @@ sum_step acc z t n u e = omega (arith, ints, ap (λ y. pos t *ℤ y) e)
 
 -- a sum over two lists is the sum of the function
 pub summed_gives : (term : ℕ → ℤ → Option ℤ) (t : ℕ → ℕ) → ((k : ℕ) (z : ℤ) → Gives (term k z) (pos (t k) *ℤ z)) → (acc : ℤ) (ks : List ℕ) (zs : List ℤ) → IsDistinct ◌==◌ ks → AllByRecursion (λ z. pos 0 ≤ℤ z) zs →
-    Gives (summed term acc ks zs) (acc +ℤ pos (sum_by (λ k. t k * values_of ks zs k) ks))
-unfolding summed IsDistinct
+    Gives (summed_beside term acc ks zs) (acc +ℤ pos (sum_by (λ k. t k * values_of ks zs k) ks))
+unfolding summed_beside IsDistinct
 summed_gives term t h acc [] zs d all = gives-same _ _ _ (gives-some acc) (omega (arith, ints))
 summed_gives term t h acc (k ∷ ks) [] d all = gives-same _ _ _ (gives-some acc) (let z = sum_by-same (λ m. t m * 0) (λ m. 0) (λ m. mul-zero (t m)) (k ∷ ks) in let y = sum_by-zero (k ∷ ks) in omega (arith, ints, z, y))
 summed_gives term t h acc (k ∷ ks) (z ∷ zs) d all =

@@ -22,7 +22,7 @@ use Rattle.mp_num.proofs.OutcomeLemmas.{option_map_some}
 use Rattle.mp_num.proofs.Ring.{diff_of, differences, diff-eq}
 use Rattle.mp_flow.specs.Systems.{Flows, AreFlows}
 use Rattle.mp_verdict.specs.Worst.{rate_weight, unit_weight, IsSlackOf, IsWorst}
-use Rattle.mp_verdict.specs.Passing.{times, less, num}
+use Rattle.mp_num.specs.Operations.{times, less, num}
 use Rattle.mp_verdict.specs.Rates.{period_unit, rate_need, unit_need}
 use Rattle.mp_verdict.specs.Game.{Standing, fraction_of, slack_alone, is_less, is_lower, alone, taken, tried}
 use Rattle.mp_verdict.proofs.Plain.{CarriesAt, asked, unit_asked, values_of}

@@ -14,7 +14,7 @@ use Rattle.mp_num.proofs.Ring.{diff_of, differences, diff-eq}
 use Rattle.mp_num.proofs.RowLemmas.{reduced_multiple}
 use Rattle.mp_num.proofs.OutcomeLemmas.{option_map_some, each_some}
 use Rattle.mp_flow.specs.Systems.{Flows, AreFlows}
-use Rattle.mp_verdict.specs.Passing.{times, num}
+use Rattle.mp_num.specs.Operations.{times, num}
 use Rattle.mp_verdict.specs.Rates.{Rates, period_unit, rate_need, unit_need, need_at, rates_in, rate_row, rates_at}
 use Rattle.mp_verdict.specs.Worst.{naturals_in}
 use Rattle.mp_verdict.proofs.Plain.{AreRates, asked, unit_asked}

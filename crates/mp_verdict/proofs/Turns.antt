@@ -16,7 +16,8 @@ use Rattle.mp_simplex.specs.declared.Optimum.{Optimum}
 use Rattle.mp_simplex.specs.Outcome.{maximised}
 use Rattle.mp_verdict.specs.Worst.{rate_weight, unit_weight, IsSlackOf}
 use Rattle.mp_verdict.specs.Stated.{Stated, Reached, at_place}
-use Rattle.mp_verdict.specs.Passing.{times, less, num, summed}
+use Rattle.mp_num.specs.Operations.{times, less, num}
+use Rattle.mp_verdict.specs.Game.{summed_beside}
 use Rattle.mp_verdict.specs.Rates.{Rates, period_unit, rate_need, unit_need, rates_at}
 use Rattle.mp_verdict.specs.Program.{program, optimum_at}
 use Rattle.mp_verdict.specs.Game.{Standing, is_over, slack_of, Turn, Carried, Lowered, spent, lowered, by_value, turn, after_turn, played}
@@ -70,11 +71,11 @@ module _ (net : Network) (ok : IsNetwork net) (flows : Flows) (are : AreFlows ne
       let u : ℕ → ℕ = λ k. unit_asked net (d_of flows) (g_of flows) k in
       let rates = gives-same _ _ (pos (rate_weight net (f_of flows) Z)) (summed_gives (λ k z. times (rate_need net flows k) (Some z)) x (λ k z. gives-times (rate_need net flows k) (Some z) (pos (x k)) z (rate_gives net flows are k) (gives-some z)) (pos 0) ks values (own_distinct net j) all) (let o = own_values net j x values in omega (arith, ints, o)) in
       let units = gives-same _ _ (pos (unit_weight net (d_of flows) (g_of flows) Z)) (summed_gives (λ k z. times (unit_need net flows k) (Some z)) u (λ k z. gives-times (unit_need net flows k) (Some z) (pos (u k)) z (unit_gives net flows are k) (gives-some z)) (pos 0) ks values (own_distinct net j) all) (let o = own_values net j u values in omega (arith, ints, o)) in
-      let r = fraction_is (less (times (period_unit net flows) (Some den)) (summed (λ k z. times (rate_need net flows k) (Some z)) (pos 0) ks values)) (times (num net.per) (summed (λ k z. times (unit_need net flows k) (Some z)) (pos 0) ks values))
+      let r = fraction_is (less (times (period_unit net flows) (Some den)) (summed_beside (λ k z. times (rate_need net flows k) (Some z)) (pos 0) ks values)) (times (num net.per) (summed_beside (λ k z. times (unit_need net flows k) (Some z)) (pos 0) ks values))
       (pos (Y * unsigned_abs den) -ℤ pos (rate_weight net (f_of flows) Z)) (net.per * unit_weight net (d_of flows) (g_of flows) Z) a
-      (gives-less (times (period_unit net flows) (Some den)) (summed (λ k z. times (rate_need net flows k) (Some z)) (pos 0) ks values) (pos (Y * unsigned_abs den)) (pos (rate_weight net (f_of flows) Z))
+      (gives-less (times (period_unit net flows) (Some den)) (summed_beside (λ k z. times (rate_need net flows k) (Some z)) (pos 0) ks values) (pos (Y * unsigned_abs den)) (pos (rate_weight net (f_of flows) Z))
       (gives-same _ _ _ (gives-times (period_unit net flows) (Some den) (pos Y) den (period_gives net flows are) (gives-some den)) (ap (λ t. pos Y *ℤ t) (positive_is den one) ∙ mul_posℤ Y (unsigned_abs den))) rates)
-      (gives-same _ _ _ (gives-times (num net.per) (summed (λ k z. times (unit_need net flows k) (Some z)) (pos 0) ks values) (pos net.per) (pos (unit_weight net (d_of flows) (g_of flows) Z)) (gives-some _) units) (mul_posℤ net.per (unit_weight net (d_of flows) (g_of flows) Z)))
+      (gives-same _ _ _ (gives-times (num net.per) (summed_beside (λ k z. times (unit_need net flows k) (Some z)) (pos 0) ks values) (pos net.per) (pos (unit_weight net (d_of flows) (g_of flows) Z)) (gives-some _) units) (mul_posℤ net.per (unit_weight net (d_of flows) (g_of flows) Z)))
       (mul-le-mul ok.per (unit_some net (d_of flows) (g_of flows) Z ok.shares (above_one flows.d are.denominator) some)) e in
       (r.0, slack_is net (d_of flows) (f_of flows) (g_of flows) Z (unsigned_abs den) a r.0 r.1)
 

@@ -6,7 +6,7 @@ use Rattle.std.proofs.lemmas.Option.{option_and_then_some, same_Some}
 use Rattle.std.proofs.lemmas.List.Sums.{sum_by-cons}
 use Rattle.mp_num.specs.Passing.{run}
 use Rattle.mp_num.proofs.CheckedLemmas.{within_some}
-use Rattle.mp_verdict.specs.Passing.{times, plus, less, added, sum_of}
+use Rattle.mp_num.specs.Operations.{times, plus, less, added, summed}
 
 -- where the number is there, it is v
 pub record Gives (o : Option ℤ) (v : ℤ) : Type 0 where
@@ -54,6 +54,6 @@ sum_from term t (k ∷ ks) s h = record {
       omega (arith, ints, first, rest, sum_by-cons t k ks)));
 }
 
-pub gives-sum : (term : ℕ → Option ℤ) (t : ℕ → ℕ) (ks : List ℕ) → AllByRecursion (λ k. Gives (term k) (pos (t k))) ks → Gives (sum_of term ks) (pos (sum_by t ks))
-unfolding sum_of
+pub gives-sum : (term : ℕ → Option ℤ) (t : ℕ → ℕ) (ks : List ℕ) → AllByRecursion (λ k. Gives (term k) (pos (t k))) ks → Gives (summed term ks) (pos (sum_by t ks))
+unfolding summed
 gives-sum term t ks h = gives-same _ _ _ (sum_from term t ks (pos 0) h) (omega (arith, ints))

@@ -14,7 +14,7 @@ use Rattle.mp_num.specs.Passing.{each}
 use Rattle.mp_num.proofs.OutcomeLemmas.{option_map_some, each_some}
 use Rattle.mp_num.proofs.RowLemmas.{reduced_multiple}
 use Rattle.mp_flow.specs.Systems.{Worths, stated_worths, onward}
-use Rattle.mp_verdict.specs.Passing.{times, num}
+use Rattle.mp_num.specs.Operations.{times, num}
 use Rattle.mp_verdict.specs.Game.{Standing}
 use Rattle.mp_verdict.specs.Vector.{value_beside, spread, link_value, link_values, vector_entry, vector_by, vector_of}
 use Rattle.mp_verdict.specs.Worst.{naturals_in, IsWorth, IsDivided, against}

@@ -1,5 +1,5 @@
 -- The game of the junctions: the slack falls from junction to junction until all can serve the rates at it.
-use Rattle.std.specs.Prelude.{◌==◌, ℕ, zero, suc, ◌+◌, ◌-◌, Bool, true, false, cond, List, map, ℤ, pos, ◌*ℤ◌, int_lt, Option, Some, None, option_map, option_and_then}
+use Rattle.std.specs.Prelude.{◌==◌, ℕ, zero, suc, ◌+◌, ◌-◌, Bool, true, false, cond, List, [], ◌∷◌, map, ℤ, pos, ◌*ℤ◌, int_lt, Option, Some, None, option_map, option_and_then}
 use Rattle.std.specs.declared.cmp.Ordering.{Ordering}
 use Rattle.mp_num.specs.Checked.{within, compared}
 use Rattle.mp_num.specs.Fraction.{Fraction, lowest_terms}
@@ -10,7 +10,7 @@ use Rattle.mp_flow.specs.Systems.{Flows}
 use Rattle.mp_simplex.specs.declared.Optimum.{Optimum}
 use Rattle.mp_simplex.specs.Outcome.{maximised}
 use Rattle.mp_verdict.specs.Stated.{Stated, Reached, LimitAt, then, at_place, run_reached}
-use Rattle.mp_verdict.specs.Passing.{times, less, num, summed}
+use Rattle.mp_num.specs.Operations.{times, plus, less, num}
 use Rattle.mp_verdict.specs.Rates.{Rates, period_unit, rate_need, unit_need, rates_at}
 use Rattle.mp_verdict.specs.Program.{program, optimum_at}
 
@@ -71,12 +71,18 @@ all_tried net flows j standing = (let ks = own net (junction_at net j) in run (t
 unfoldable pub is_over : Rates → Optimum → Option Bool
 is_over rates o = option_map (λ most. int_lt most o.value.num) (within (rates.d *ℤ o.value.den))
 
+-- This is a sum so far with a term of each number of a list and the value beside it.
+unfoldable pub summed_beside : (ℕ → ℤ → Option ℤ) → ℤ → List ℕ → List ℤ → Option ℤ
+summed_beside term sum [] zs = Some sum
+summed_beside term sum (k ∷ ks) [] = Some sum
+summed_beside term sum (k ∷ ks) (z ∷ zs) = option_and_then (λ t. summed_beside term t ks zs) (plus (Some sum) (term k z))
+
 -- This is the slack that some values over a denominator give, for the movements beside them.
 unfoldable pub slack_of : Network → Flows → List ℕ → List ℤ → ℤ → Option Fraction
 slack_of net flows ks values den =
     fraction_of
-    (less (times (period_unit net flows) (Some den)) (summed (λ k z. times (rate_need net flows k) (Some z)) (pos 0) ks values))
-    (times (num net.per) (summed (λ k z. times (unit_need net flows k) (Some z)) (pos 0) ks values))
+    (less (times (period_unit net flows) (Some den)) (summed_beside (λ k z. times (rate_need net flows k) (Some z)) (pos 0) ks values))
+    (times (num net.per) (summed_beside (λ k z. times (unit_need net flows k) (Some z)) (pos 0) ks values))
 
 -- A turn ends with the junction carrying the slack, or with a lower slack and so many turns left.
 pub data Turn : Type 0 where

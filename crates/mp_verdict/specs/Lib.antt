@@ -1,5 +1,4 @@
 pub mod Stated
-pub mod Passing
 pub mod Rates
 pub mod Program
 pub mod Game

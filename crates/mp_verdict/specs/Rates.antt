@@ -7,7 +7,7 @@ use Rattle.mp_num.specs.Row.{entry}
 use Rattle.mp_model.specs.Network.{Network, movement_numbers, from_of, share_of}
 use Rattle.mp_model.specs.Certificate.{int_entry}
 use Rattle.mp_flow.specs.Systems.{Flows}
-use Rattle.mp_verdict.specs.Passing.{times, plus, num}
+use Rattle.mp_num.specs.Operations.{times, plus, num}
 
 -- The share total times the rate length times the flows' denominator stands for a rate of one vehicle per period.
 unfoldable pub period_unit : Network → Flows → Option ℤ

@@ -5,7 +5,7 @@ use Rattle.mp_num.specs.Passing.{each}
 use Rattle.mp_model.specs.Network.{Network, link_numbers, movement_numbers, junction_at, to_of, share_of, out_of, own}
 use Rattle.mp_model.specs.Certificate.{int_entry}
 use Rattle.mp_flow.specs.Systems.{Worths, stated_worths, onward}
-use Rattle.mp_verdict.specs.Passing.{times, plus, num, sum_of}
+use Rattle.mp_num.specs.Operations.{times, plus, num, summed}
 use Rattle.mp_verdict.specs.Game.{Standing}
 
 -- This is the value beside movement k in two lists, and 0 where the movement is not there.
@@ -20,7 +20,7 @@ spread net standing = map (value_beside (own net (junction_at net standing.junct
 
 -- This is what the values bring to link l: the sum over the movements out of it of the share times the value.
 unfoldable pub link_value : Network → List ℤ → ℕ → Option ℤ
-link_value net values l = sum_of (λ k. times (num (share_of net k)) (Some (int_entry values k))) (out_of net l)
+link_value net values l = summed (λ k. times (num (share_of net k)) (Some (int_entry values k))) (out_of net l)
 
 -- These are what the values bring to the links.
 unfoldable pub link_values : Network → List ℤ → Option (List ℤ)

@@ -1,6 +1,6 @@
 use Rattle.std.proofs.Common.{◌≡◌, ◌≤ℤ◌, pos, subst, Some, [], ◌∷◌, rules, Vec, Global, ℤ}
 use Rattle.mp_flow.specs.Calculating.{flows_of}
-use Rattle.mp_verdict.specs.Passing.{times}
+use Rattle.mp_num.specs.Operations.{times}
 use Rattle.mp_verdict.specs.Rates.{period_unit, rates_in}
 use Rattle.mp_admit.proofs.RateLemmas.{rates_refused, whole_sign, first_sign}
 use Rattle.mp_admit.proofs.rates.rates_at.Goals as goal

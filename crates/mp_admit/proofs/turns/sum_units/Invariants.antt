@@ -1,6 +1,6 @@
 use Rattle.std.proofs.Common.{Some}
 use Rattle.mp_flow.specs.Calculating.{flows_of}
-use Rattle.mp_verdict.specs.Passing.{times}
+use Rattle.mp_num.specs.Operations.{times}
 use Rattle.mp_verdict.specs.Rates.{unit_need}
 use Rattle.mp_admit.proofs.SumLemmas.{Summing}
 use Rattle.mp_admit.proofs.turns.sum_units.Given as goal

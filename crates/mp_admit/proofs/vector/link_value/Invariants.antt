@@ -1,7 +1,7 @@
 use Rattle.std.proofs.Common.{Some}
 use Rattle.mp_model.specs.Network.{share_of}
 use Rattle.mp_model.specs.Certificate.{int_entry}
-use Rattle.mp_verdict.specs.Passing.{times, num}
+use Rattle.mp_num.specs.Operations.{times, num}
 use Rattle.mp_admit.proofs.SpreadLemmas.{Bringing}
 use Rattle.mp_admit.proofs.vector.link_value.Given as goal
 

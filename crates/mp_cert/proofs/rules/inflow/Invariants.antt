@@ -1,6 +1,6 @@
 use Rattle.std.proofs.Common.{pos, Some}
 use Rattle.mp_model.specs.Certificate.{rate_of}
-use Rattle.mp_cert.specs.Passing.{added}
+use Rattle.mp_num.specs.Operations.{added}
 use Rattle.mp_cert.specs.Views.{cert_of}
 use Rattle.mp_cert.proofs.RunLemmas.{Running}
 use Rattle.mp_cert.proofs.rules.inflow.Given as goal

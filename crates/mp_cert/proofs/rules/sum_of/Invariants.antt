@@ -1,5 +1,5 @@
 use Rattle.std.proofs.Common.{pos, Some}
-use Rattle.mp_cert.specs.Passing.{added}
+use Rattle.mp_num.specs.Operations.{added}
 use Rattle.mp_cert.proofs.RunLemmas.{Running}
 use Rattle.mp_cert.proofs.rules.sum_of.Given as goal
 

@@ -1,7 +1,7 @@
 use Rattle.std.proofs.Common.{◌≡◌, ◌∙◌, sym, ap, Option, None, ℕ}
 use Rattle.mp_model.specs.Network.{out_of_target, to_of}
 use Rattle.mp_num.specs.Passing.{run}
-use Rattle.mp_cert.specs.Passing.{summed}
+use Rattle.mp_num.specs.Operations.{summed}
 use Rattle.mp_cert.specs.Weighing.{counted}
 use Rattle.mp_cert.proofs.weighing.behind.Goals as goal
 

@@ -1,6 +1,6 @@
 use Rattle.std.proofs.Common.{pos, length}
 use Rattle.mp_model.specs.Network.{numbers_to}
-use Rattle.mp_cert.specs.Passing.{added}
+use Rattle.mp_num.specs.Operations.{added}
 use Rattle.mp_cert.specs.Weighing.{brought}
 use Rattle.mp_cert.proofs.RunLemmas.{Running}
 use Rattle.mp_cert.proofs.weighing.load.Given as goal

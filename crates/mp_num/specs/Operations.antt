@@ -1,5 +1,5 @@
--- Sums and products that may pass 128 bits; what has passed stays passed.
-use Rattle.std.specs.Prelude.{ℕ, ℤ, pos, ◌+ℤ◌, ◌-ℤ◌, ◌*ℤ◌, Bool, not, int_lt, List, Option, Some, option_map, option_and_then}
+-- Products, sums and differences that may exceed 128 bits; what has exceeded them stays so.
+use Rattle.std.specs.Prelude.{ℕ, ℤ, pos, ◌+ℤ◌, ◌-ℤ◌, ◌*ℤ◌, List, Option, Some, option_and_then}
 use Rattle.mp_num.specs.Checked.{within}
 use Rattle.mp_num.specs.Passing.{run}
 
@@ -26,7 +26,3 @@ added term sum x = plus (Some sum) (term x)
 -- The sum of the terms of a list begins at 0.
 unfoldable pub summed : {X : Type 0} → (X → Option ℤ) → List X → Option ℤ
 summed term xs = run (added term) (pos 0) xs
-
--- A number is at most another, where both are there.
-unfoldable pub at_most : Option ℤ → Option ℤ → Option Bool
-at_most a b = option_and_then (λ x. option_map (λ y. not (int_lt y x)) b) a
