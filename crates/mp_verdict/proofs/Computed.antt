@@ -22,4 +22,4 @@ use Rattle.mp_verdict.specs.WorkedVerdicts.{AreWorkedVerdicts}
 
 pub worked : AreWorkedVerdicts
 unfolding within euclid gcd_of divisor divided reduced lcm_of each2 each run combined_entry combined denominator answer_at answers solved negated upright cleared turned turn eliminated flow_cell flow_row flow_rows worth_cell worth_row worth_rows stated_flows stated_worths cost_cell slack_cell first_row first_rows simplex_denominator primal_at primal numbers_over denominator_over maximised entering better looked leaving choice pivoted turns fraction_of slack_alone is_lower tried all_tried is_over slack_of lowered game_turn played after_junction game mixed mixes certificate_at times plus less summed summed_beside period_unit rate_need unit_need need_at rate_row rates_at run_reached each_reached spread link_value link_values vector_entry vector_by vector_of judged verdict_after verdict
-worked = record { one = refl; queues = refl; circle = refl; four = refl; five = refl; streets = refl; round = refl }
+worked = record { one = refl; queues = refl; circle = refl; four = refl; five = refl; streets = refl; sums = refl; critical_sums = refl; round = refl }

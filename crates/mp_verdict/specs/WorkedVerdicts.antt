@@ -7,9 +7,13 @@ use Rattle.mp_flow.specs.declared.network.Place.{Place}
 use Rattle.mp_verdict.specs.Stated.{Stated, Reached, PassesAt, LimitAt}
 use Rattle.mp_verdict.specs.Verdict.{Verdict, Admitted, Critical, Overloaded, Motionless, verdict}
 
--- This is the verdict on a network where the two sums of a vector pass nothing.
+-- This is the verdict on a network where the two sums of a vector exceed nothing.
 abbrev pub verdict_on : Network → Stated Verdict
 verdict_on net = verdict net (λ (p : List ℤ). Some p)
+
+-- These are two sums that exceed 128 bits.
+abbrev pub no_sums : Option (List ℤ)
+no_sums = None
 
 -- This is the slack of a verdict that admits.
 abbrev pub slack_in : Stated Verdict → Option Fraction
@@ -36,7 +40,7 @@ ring n = record {
   junctions = map (λ i. record { name = []; stages = ((2 * i - 1) ∷ (2 * i) ∷ []) ∷ [] }) (numbers_to n);
 }
 
--- The worked networks are admitted with their certificates and slacks; two approaches of rate 4 are critical, and of rate 5 overloaded, as the vector 1, 1 shows; the corridor has the slack 57387/9974, and a ring of 40 links passes 128 bits in its flows.
+-- The worked networks are admitted with their certificates and slacks; two approaches of rate 4 are critical, and of rate 5 overloaded, as the vector 1, 1 shows; the corridor has the slack 57387/9974, and a ring of 40 links exceeds 128 bits in its flows. Where the two sums of the vector exceed them, their place is told before the slack's sign.
 pub record AreWorkedVerdicts : Type 0 where
   pub one : verdict_on two_approaches ≡ Reached (Admitted two_approaches_cert (pos 1 ∷ pos 1 ∷ []) (record { num = pos 3; den = pos 4 }))
   pub queues : verdict_on tandem ≡ Reached (Admitted tandem_cert (pos 1 ∷ pos 1 ∷ []) (record { num = pos 1; den = pos 4 }))
@@ -44,4 +48,6 @@ pub record AreWorkedVerdicts : Type 0 where
   pub four : verdict_on (two_approaches_at 4) ≡ Reached (Critical (pos 1 ∷ pos 1 ∷ []))
   pub five : verdict_on (two_approaches_at 5) ≡ Reached (Overloaded (pos 1 ∷ pos 1 ∷ []))
   pub streets : slack_in (verdict_on corridor) ≡ Some (record { num = pos 57387; den = pos 9974 })
+  pub sums : verdict two_approaches (λ (p : List ℤ). no_sums) ≡ PassesAt Place.Vector
+  pub critical_sums : verdict (two_approaches_at 4) (λ (p : List ℤ). no_sums) ≡ PassesAt Place.Vector
   pub round : verdict_on (ring 40) ≡ PassesAt Place.Flow
