@@ -28,13 +28,14 @@ slack_in (LimitAt j) = None
 abbrev pub around : ℕ → List ℕ → List Movement
 around n [] = []
 around n (i ∷ is) =
-    record { name = []; from = i; to = Some (cond (i == n) 1 (i + 1)); share = 999; flow = 1000 } ∷ record { name = []; from = i; to = None; share = 1; flow = 1000 } ∷ around n is
+    record { name = []; from = i; to = Some (cond (i == n) 1 (i + 1)); share = 999; flow = 1000; start = 0 } ∷ record { name = []; from = i; to = None; share = 1; flow = 1000; start = 0 } ∷ around n is
 
 -- In a ring of n links nearly all vehicles of a link go on to the next one, each link at a junction of its own.
 abbrev pub ring : ℕ → Network
 ring n = record {
   shares = 1000;
   per = 1;
+  delay = 0;
   links = record { name = codes "r1"; burst = 1; rate = 1 } ∷ map (λ i. record { name = []; burst = 0; rate = 0 }) (numbers_to (n - 1));
   movements = around n (numbers_to n);
   junctions = map (λ i. record { name = []; stages = ((2 * i - 1) ∷ (2 * i) ∷ []) ∷ [] }) (numbers_to n);
