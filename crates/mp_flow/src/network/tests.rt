@@ -12,6 +12,7 @@ fn no_links(alloc: Global, shares: u32, per: u32) -> NetParts {
     NetParts {
         shares,
         per,
+        delay: 0,
         links: Vec::new(alloc),
         movements: Vec::new(alloc),
         junctions: Vec::new(alloc),
@@ -43,6 +44,7 @@ fn add_link(
             to: *to,
             share: *share,
             flow: 2,
+            start: 0,
         })?;
         stage.push(number as u16 + 1)?;
     }
