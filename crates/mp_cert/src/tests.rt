@@ -16,6 +16,7 @@ fn no_links(alloc: Global, shares: u32, per: u32) -> NetParts {
     NetParts {
         shares,
         per,
+        delay: 0,
         links: Vec::new(alloc),
         movements: Vec::new(alloc),
         junctions: Vec::new(alloc),
@@ -46,6 +47,7 @@ fn add_movement(
         to,
         share: 1,
         flow,
+        start: 0,
     })?;
     Ok(())
 }

@@ -22,6 +22,7 @@ fn two_approaches(alloc: Global) -> Result<Net, Fail> {
             to: None,
             share: 1,
             flow: 2,
+            start: 0,
         })?;
     }
     let mut stages = Vec::new(alloc);
@@ -40,6 +41,7 @@ fn two_approaches(alloc: Global) -> Result<Net, Fail> {
         NetParts {
             shares: 1,
             per: 4,
+            delay: 0,
             links,
             movements,
             junctions,
