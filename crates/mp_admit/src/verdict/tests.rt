@@ -30,6 +30,7 @@ fn movements(alloc: Global, rows: &[(u16, u16, u32, u32)]) -> Result<Vec<Movemen
             to: if *to == 0 { None } else { Some(*to) },
             share: *share,
             flow: *flow,
+            start: 0,
         })?;
     }
     Ok(movements)
@@ -61,6 +62,7 @@ fn network(
     let parts = NetParts {
         shares,
         per,
+        delay: 0,
         links: links(alloc, link_rows)?,
         movements: movements(alloc, movement_rows)?,
         junctions: junctions(alloc, junction_rows)?,
@@ -122,6 +124,7 @@ fn ring(alloc: Global, count: u8, after: u16) -> Result<Net, Fail> {
     let parts = NetParts {
         shares: 1000,
         per: 1,
+        delay: 0,
         links: self::links(alloc, &links)?,
         movements: self::movements(alloc, &movements)?,
         junctions,
