@@ -34,6 +34,7 @@ fn movements(alloc: Global, rows: &[(u16, u16, u32, u32)]) -> Result<Vec<Movemen
             to: if *to == 0 { None } else { Some(*to) },
             share: *share,
             flow: *flow,
+            start: 0,
         })?;
     }
     Ok(movements)
@@ -65,6 +66,7 @@ fn network(
     let parts = NetParts {
         shares,
         per,
+        delay: 0,
         links: links(alloc, rates)?,
         movements: movements(alloc, movement_rows)?,
         junctions: junctions(alloc, junction_rows)?,
@@ -121,6 +123,7 @@ fn ring(alloc: Global) -> Result<Net, Fail> {
     let parts = NetParts {
         shares: 1000,
         per: 1,
+        delay: 0,
         links: links(alloc, &rates)?,
         movements: movements(alloc, &rows)?,
         junctions,
