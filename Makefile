@@ -1,10 +1,45 @@
-# `make run` builds the program and runs its main job on two examples; `make test` is the gate.
+# `make` lists the targets.
 
-.PHONY: run test
+PREFIX ?= /usr/local
 
-run:
-	(cd crates/maxpressure && rt run -- run ../../examples/two-links.toml) < examples/two-links.stream
-	(cd crates/maxpressure && rt run -- run ../../examples/corridor.toml) < examples/corridor.stream
+.DEFAULT_GOAL := help
+.PHONY: help run build test docs tools-test bench controls fmt install clean
 
-test:
+help: ## list these targets
+	@echo "README.md is the first page. The targets:"
+	@awk -F ':.*## ' '/^[a-z-]+:.*## / { printf "make %-12s %s\n", $$1, $$2 }' Makefile
+
+run: ## run two examples: with ./maxpressure where it is built, else at once as an unproved trial
+	@bash examples/run.sh
+
+build: ## prove the program and build ./maxpressure (from nothing about 40 minutes on 4 processors)
+	@echo "Proving and building: about 40 minutes on 4 processors from nothing, else what has changed."
+	cd crates/maxpressure && rt run -- show ../../examples/two-links.toml > /dev/null
+	install -m 755 crates/maxpressure/out/maxpressure maxpressure
+
+test: ## the gate: proofs, wrong bodies, tests, runs, documents (from nothing 1 to 2 hours)
 	bash .ci/run
+
+docs: maxpressure ## compare each output in the documents with what ./maxpressure prints
+	python3 .ci/documents.py maxpressure
+
+tools-test: ## test the Python tools in tools/
+	bash tools/test.sh
+
+bench: ## time ./maxpressure beside plain Rust, and print the table of docs/speed.md
+	bash bench/run.sh
+
+controls: ## check that each law is refused where it is sharpened (10 minutes; not in the gate)
+	sh crates/mp_controls/sharper.sh
+
+fmt: ## lay out the sources of all crates
+	for crate in crates/*/; do (cd "$$crate" && rt fmt) || exit 1; done
+
+install: maxpressure ## copy ./maxpressure to PREFIX/bin (PREFIX=/usr/local)
+	install -D -m 755 maxpressure "$(DESTDIR)$(PREFIX)/bin/maxpressure"
+
+clean: ## remove ./maxpressure and what was proved and built here
+	rm -rf maxpressure crates/*/out bench/out
+
+maxpressure:
+	@echo "./maxpressure is not there: 'make build' proves and builds it"; exit 2
