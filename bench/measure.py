@@ -1,0 +1,125 @@
+#!/usr/bin/env python3
+"""measure.py PROGRAM [--quick]: the tables that bench/run.sh prints.
+
+A time is the processor time, user and system, of a whole run: the least of several, which are made in turn.
+"""
+import itertools
+import os
+import pathlib
+import resource
+import shutil
+import subprocess
+import sys
+import time
+
+HERE = pathlib.Path(__file__).resolve().parent
+OUT = HERE / "out"
+PLAIN = OUT / "plain"
+# What to run: a network, its periods, and its periods where the runs are to be quick.
+RUNS = [
+    ("links 2", 200_000, 20_000),
+    ("corridor 3", 100_000, 10_000),
+    ("corridor 10", 50_000, 5_000),
+    ("city 3", 50_000, 5_000),
+    ("grid 8", 20_000, 2_000),
+    ("largest 0", 10_000, 1_000),
+]
+# The greatest network of each kind that certifies, and the next where 128 links allow one.
+CERTIFIED = ["corridor 3", "corridor 16", "corridor 17", "grid 8", "blocks 6", "blocks 7", "city 3", "city 4", "largest 0"]
+SCALED = ["corridor 32", "grid 8", "blocks 8", "city 4", "city 5", "largest 0"]
+
+
+def made(network, periods=None):
+    """The file of a network, or of a stream for it, which is kept for the next time."""
+    file = OUT / (network.replace(" ", "-") + (".toml" if periods is None else f".{periods}.stream"))
+    if not file.exists() or file.stat().st_mtime < (HERE / "networks.py").stat().st_mtime:
+        words = [sys.executable, HERE / "networks.py", *network.split(), *([] if periods is None else [str(periods)])]
+        with open(OUT / "making", "wb") as it:
+            subprocess.run(words, stdout=it, check=True)
+        os.replace(OUT / "making", file)
+    return file
+
+
+def run(words, given=os.devnull, to=os.devnull):
+    """The seconds of processor time that a command takes. The measurement ends where its status is not 0."""
+    with open(given, "rb") as source, open(to, "wb") as sink:
+        before = resource.getrusage(resource.RUSAGE_CHILDREN)
+        ended = subprocess.run(words, stdin=source, stdout=sink, stderr=subprocess.PIPE)
+        after = resource.getrusage(resource.RUSAGE_CHILDREN)
+    spent = after.ru_utime - before.ru_utime + after.ru_stime - before.ru_stime
+    if ended.returncode:
+        sys.exit(f"bench: {' '.join(map(str, words))} ended with status {ended.returncode}: {ended.stderr.decode()[:200]}")
+    return spent
+
+
+def least(times, *runs):
+    """The least time of each of some runs, which are made in turn."""
+    return [min(it) for it in zip(*([run(*one) for one in runs] for _ in range(times)))]
+
+
+def overflow(words):
+    """What a command says of its calculation where that exceeds 128 bits, and nothing otherwise."""
+    ended = subprocess.run(words, stdin=subprocess.DEVNULL, stdout=subprocess.DEVNULL, stderr=subprocess.PIPE)
+    return ended.stderr.decode().strip() if ended.returncode == 5 else ""
+
+
+def peak(words, given):
+    """The most memory that a command held, in MB, where GNU time is there to say it."""
+    if not shutil.which("/usr/bin/time"):
+        return "-"
+    with open(given, "rb") as source:
+        ended = subprocess.run(["/usr/bin/time", "-f", "%M", *words], stdin=source, stdout=subprocess.DEVNULL, stderr=subprocess.PIPE)
+    return f"{int(ended.stderr.split()[-1]) / 1024:.1f}"
+
+
+def compare(words, given, log):
+    """Stops where the log of plain Rust is not the program's behind its header, byte by byte."""
+    run([PLAIN, words[-1]], given, OUT / "plain.log")
+    header = (b"maxpressure ", b"slack ", b"bound ")
+    with open(log, "rb") as lines, open(OUT / "plain.log", "rb") as others:
+        behind = itertools.dropwhile(lambda line: line.startswith(header), lines)
+        for number, (line, other) in enumerate(itertools.zip_longest(behind, others), 1):
+            if line != other:
+                sys.exit(f"bench: the log of plain Rust differs from the program's over {words[-1]}, in line {number} behind the header")
+
+
+def runs(program, times, is_quick):
+    print("| network | periods | maxpressure, ms | plain Rust, ms | ratio | a period, µs | peak, MB |")
+    print("|---|---:|---:|---:|---:|---:|---:|")
+    for network, *periods in RUNS:
+        count = periods[is_quick]
+        words, stream = [program, "run", made(network)], made(network, count)
+        own = words, stream
+        plain = [([PLAIN, made(network)], stream)] if PLAIN.exists() else []
+        if plain:
+            run(words, stream, OUT / "run.log")
+            compare(words, stream, OUT / "run.log")
+        start, spent, *other = least(times, (words,), own, *plain)
+        yardstick = f"{1000 * other[0]:.0f} | {spent / other[0]:.2f}" if other else "- | -"
+        print(f"| {network} | {count} | {1000 * spent:.0f} | {yardstick} | {(spent - start) / count * 1e6:.2f} | {peak(*own)} |", flush=True)
+    if not PLAIN.exists():
+        print("\nPlain Rust was left out: there is no rustc.")
+
+
+def commands(program, times, is_quick):
+    network, *periods = RUNS[1]
+    count = periods[is_quick]
+    run([program, "run", made(network)], made(network, count), OUT / "run.log")
+    asked = [(f"certify ({it})", [program, "certify", made(it)]) for it in CERTIFIED]
+    asked += [(f"scale ({it}) 1000", [program, "scale", made(it), "1000"]) for it in SCALED]
+    asked += [(f"audit ({network}), {count} periods", [program, "audit", made(network)], OUT / "run.log"), ("demo 7", [program, "demo", "7"])]
+    print("\n| command | ms |\n|---|---:|")
+    for name, words, *given in asked:
+        why = overflow(words) if words[1] == "certify" else ""
+        print(f"| {name} | {why or f'{1000 * least(times, (words, *given))[0]:.1f}'} |", flush=True)
+
+
+if __name__ == "__main__":
+    program, *words = sys.argv[1:]
+    if words not in ([], ["--quick"]):
+        sys.exit("bench/run.sh [--quick]")
+    times = 3 if words else 9
+    model = next((it.split(":")[1].strip() for it in open("/proc/cpuinfo") if it.startswith("model name")), "unknown")
+    print(f"{os.cpu_count()} processors, {model}; load {os.getloadavg()[0]:.1f}; {time.strftime('%Y-%m-%d')}; least of {times}\n")
+    runs(program, times, bool(words))
+    commands(program, times, bool(words))
