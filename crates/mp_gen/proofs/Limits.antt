@@ -4,7 +4,7 @@ use Rattle.std.specs.List.{AllByRecursion, flat_map}
 use Rattle.std.proofs.lemmas.Simd.{map-map}
 use Rattle.std.proofs.lemmas.List.{map-id}
 use Rattle.std.proofs.lemmas.List.FromFn.{length-map-range_with_len}
-use Rattle.mp_model.specs.Network.{Network, movement_numbers, entry}
+use Rattle.mp_model.specs.Network.{Network, movement_numbers, start_of, entry}
 use Rattle.mp_model.specs.Step.{State, queue}
 use Rattle.mp_model.specs.Run.{opening, advance, run_from}
 use Rattle.mp_laws.proofs.Lists.{AllOf-map, at_index, from_numbers}
@@ -50,5 +50,5 @@ pub demonstrated_below : (s : Bounded) → IsBounded s → (n : ℕ) (at : Stand
 demonstrated_below s b n at greatest shown =
     let low = bound_of_run s.net b.acceptable.network b.certified.0 b.certified.1 (excess s.slack) (denominator s.slack) b.certified.2 b.bounds.bounds b.bounds.are shown.arrivals shown.permitted in
     let bounds : naturals s.bounds ≡ b.bounds.bounds = ap naturals b.bounds.listed ∙ map-map unsigned_abs pos b.bounds.bounds ∙ map-id b.bounds.bounds in
-    let most = states_below s.net b.bounds.bounds (opening s.net) shown.arrivals (length-map-range_with_len (λ k. 0) 1 (length s.net.movements)) low in
+    let most = states_below s.net b.bounds.bounds (opening s.net) shown.arrivals (length-map-range_with_len (start_of s.net) 1 (length s.net.movements)) low in
     omega (arith, shown.greatest_is, most, ap greatest_of bounds)

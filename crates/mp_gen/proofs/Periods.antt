@@ -1,9 +1,9 @@
 -- The periods of a demonstration, one after the other.
-use Rattle.std.proofs.Common.{◌≡◌, ℕ, ◌+◌, ◌^◌, max, List, [], ◌∷◌, ◌++◌, length, map, arith, refl, sym, ◌∙◌, ap, subst, append-nil, length-append}
+use Rattle.std.proofs.Common.{◌≡◌, ℕ, ◌+◌, ◌^◌, max, List, [], ◌∷◌, ◌++◌, length, arith, refl, sym, ◌∙◌, ap, subst, append-nil, length-append}
 use Rattle.std.specs.List.{flat_map}
 use Rattle.std.proofs.lemmas.List.Concat.{flat_map-append}
 use Rattle.rand_pcg.specs.Lcg.{Lcg}
-use Rattle.mp_model.specs.Network.{Network, movement_numbers}
+use Rattle.mp_model.specs.Network.{Network}
 use Rattle.mp_model.specs.Step.{State}
 use Rattle.mp_model.specs.Run.{opening, advance, run_from, state_after}
 use Rattle.mp_step.specs.Standing.{Standing, Stands}
@@ -13,6 +13,7 @@ use Rattle.mp_gen.specs.DemoNetwork.{demo_network}
 use Rattle.mp_gen.specs.DemoArrivals.{seeded, AreDrawn}
 use Rattle.mp_gen.specs.Demonstration.{greatest_queue, Demonstrated, ClosesNext}
 use Rattle.mp_gen.proofs.Greatests.{greatest-append}
+use Rattle.mp_gen.proofs.Roads.{none_at_start}
 use Rattle.mp_gen.proofs.Draws.{drawn_more}
 
 -- in the middle of a demonstration: so many periods were drawn and closed, the run stands after them, and this is its greatest queue
@@ -24,16 +25,9 @@ pub record Shown (net : Network) (n : ℕ) (at : Standing) (words : Lcg) (turns 
   pub stands : Stands net at (state_after net (opening net) arrivals)
   pub greatest_is : greatest ≡ greatest_queue net arrivals
 
--- nothing is queued at the opening
-none_queued : (ks : List ℕ) → greatest_of (map (λ k. 0) ks) ≡ 0
-none_queued [] = refl
-none_queued (k ∷ ks) = omega (arith, none_queued ks)
-
-none_at_opening : (net : Network) → 0 ≡ greatest_queue net []
-none_at_opening net = sym (ap greatest_of (append-nil (map (λ k. 0) (movement_numbers net))) ∙ none_queued (movement_numbers net))
-
-pub shown_start : (net : Network) (n : ℕ) (at : Standing) (words : Lcg) → Stands net at (opening net) → HasTaken net at [] → words ≡ seeded n → Shown net n at words 0 0
-shown_start net n at words stands taken is = record { arrivals = []; periods = refl; drawn = is; taken = taken; stands = stands; greatest_is = none_at_opening net }
+pub shown_start : (net : Network) (n : ℕ) (at : Standing) (words : Lcg) → net ≡ demo_network n → Stands net at (opening net) → HasTaken net at [] → words ≡ seeded n → Shown net n at words 0 0
+shown_start net n at words demo stands taken is =
+    record { arrivals = []; periods = refl; drawn = is; taken = taken; stands = stands; greatest_is = subst (λ (m : Network). 0 ≡ greatest_queue m []) (sym demo) (none_at_start n) }
 
 -- one more period of a run
 run_more : (net : Network) (state : State) (A : List (List ℕ)) (counts : List ℕ) → run_from net state (A ++ counts ∷ []) ≡ run_from net state A ++ advance net counts (state_after net state A) ∷ []

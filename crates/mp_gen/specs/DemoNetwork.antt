@@ -38,7 +38,7 @@ links_into rate i = main_link rate i ∷ side_link i ∷ []
 
 -- This is the movement of a road at junction i, whose name is the letter of the road, the number and the letter of the way.
 abbrev pub road_movement : List ℕ → ℕ → List ℕ → ℕ → Option ℕ → ℕ → ℕ → Movement
-road_movement road i way from to share flow = record { name = road ++ decimal i ++ way; from = from; to = to; share = share; flow = flow }
+road_movement road i way from to share flow = record { name = road ++ decimal i ++ way; from = from; to = to; share = share; flow = flow; start = 0 }
 
 -- At a junction before the last, both roads lead through to the next main link and out: of 10 on the main road 8 go through, and on the side road 5; the flow is 8 on the main road and 4 on the side road.
 abbrev pub through_movements : ℕ → List Movement
@@ -70,11 +70,12 @@ road_movements count = flat_map through_movements (numbers_to (count - 1)) ++ la
 abbrev pub road_junctions : ℕ → List Junction
 road_junctions count = map through_junction (numbers_to (count - 1)) ++ last_junction count ∷ []
 
--- This is the road through so many junctions, which begins at this rate: in 10 parts, with rates in 20 periods.
+-- This is the road through so many junctions, which begins at this rate: in 10 parts, with rates in 20 periods, without start queues or old reports.
 abbrev pub road_network : ℕ → ℕ → Network
 road_network count rate = record {
   shares = 10;
   per = 20;
+  delay = 0;
   links = flat_map (links_into rate) (numbers_to count);
   movements = road_movements count;
   junctions = road_junctions count;

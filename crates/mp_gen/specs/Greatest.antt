@@ -1,5 +1,5 @@
 -- The greatest of a list of numbers.
-use Rattle.std.specs.Prelude.{◌≡◌, ◌≤◌, ℕ, true, List, [], ◌∷◌, length}
+use Rattle.std.specs.Prelude.{◌≡◌, ◌≤◌, ℕ, true, List, length}
 use Rattle.std.specs.List.{AllByRecursion}
 use Rattle.mp_model.specs.Load.{greatest as greatest_of}
 use Rattle.mp_model.specs.Network.{has}

@@ -102,6 +102,7 @@ fn movement(
         to,
         share,
         flow,
+        start: 0,
     }
 }
 
@@ -201,6 +202,7 @@ pub fn demo_net(alloc: Global, n: u64) -> Result<Net, NoMemory>
     let parts = NetParts {
         shares: 10,
         per: 20,
+        delay: 0,
         links: road_links(alloc, count, rate)?,
         movements: road_movements(alloc, count)?,
         junctions: road_junctions(alloc, count)?,

@@ -10,7 +10,7 @@ use Rattle.mp_gen.proofs.demonstration.demonstrate.Goals as goal
 
 pub loop-turn-init : goal.loop-turn-init
 loop-turn-init c = record {
-  shown = shown_start c.args.session.now.net c.args.n c.args.session.now.at c.new-arrivals.result c.requires.start c.requires.taken c.new-arrivals.ensures;
+  shown = shown_start c.args.session.now.net c.args.n c.args.session.now.at c.new-arrivals.result c.requires.network c.requires.start c.requires.taken c.new-arrivals.ensures;
   same = refl;
   period = c.requires.start.period;
 }
