@@ -24,6 +24,7 @@ fn two_links(alloc: Global) -> Result<Net, Fail> {
     let mut parts = NetParts {
         shares: 1,
         per: 4,
+        delay: 0,
         links: Vec::new(alloc),
         movements: Vec::new(alloc),
         junctions: Vec::new(alloc),
@@ -41,6 +42,7 @@ fn two_links(alloc: Global) -> Result<Net, Fail> {
             to: None,
             share: 1,
             flow: 2,
+            start: 0,
         })?;
         let mut stage = Vec::new(alloc);
         stage.push(number)?;

@@ -2,7 +2,7 @@ use Rattle.std.proofs.Common.{◌+◌, refl, arith, rules, subst, Some, None}
 use Rattle.mp_model.specs.Network.{Network}
 use Rattle.mp_run.specs.Running.{Finishes}
 use Rattle.mp_run.proofs.BoundLemmas.{stays_within, same_after, net_same, takes_same}
-use Rattle.mp_run.proofs.ProgressLemmas.{progress_start, progress_line, progress_stop, progress_failed, progress_many, progress_end}
+use Rattle.mp_run.proofs.ProgressLemmas.{progress_start, progress_line, progress_long, progress_stop, progress_failed, progress_many, progress_end}
 use Rattle.mp_run.proofs.run.run_stream.Goals as goal
 
 pub loop-turn-init : goal.loop-turn-init
@@ -43,6 +43,10 @@ returns-in-End-next-clause-ends g c =
     let net = net_same c.args.session.now c.loop-turn.session c.loop-turn.invariant.same in
     let finishes = subst (λ (n : Network). Finishes n c.finish-in-End-next.result c.loop-turn.session.at (g.Out.Sink.held c.loop-turn.out) (g.Out.Sink.held c.finish-in-End-next.new.out)) net c.finish-in-End-next.ensures.finishes in
     progress_end c.args.session.now.net c.finish-in-End-next.result _ _ _ c.loop-turn.cutter c.next-2.new.self _ _ _ c.loop-turn.session.at c.loop-turn.turn (omega arith) c.loop-turn.invariant.progress c.in-End-next.ensures.told finishes
+
+pub returns-in-TooLong-clause-ends : goal.returns-in-TooLong-clause-ends
+returns-in-TooLong-clause-ends g c =
+    progress_long c.args.session.now.net _ _ _ c.loop-turn.cutter c.next.new.self _ _ c.loop-turn.session.at c.loop-turn.turn c.loop-turn-test.true c.loop-turn.invariant.progress c.in-TooLong.ensures.told
 
 pub returns-in-Failed-clause-ends : goal.returns-in-Failed-clause-ends
 returns-in-Failed-clause-ends g c =
