@@ -1,9 +1,9 @@
 -- What an acceptable network says of the numbers in it.
-use Rattle.std.proofs.Common.{◌≡◌, ℕ, ◌+◌, ◌-◌, ◌≤◌, ◌<◌, zero, suc, Bool, true, false, cond, ◌==◌, List, [], ◌∷◌, length, map, get_or, Option, Some, None, IfSome, refl, ap, sym, ◌∙◌, arith}
+use Rattle.std.proofs.Common.{◌≡◌, ℕ, ◌+◌, ◌-◌, ◌≤◌, ◌<◌, zero, suc, Bool, true, false, ◌==◌, List, [], length, get_or, Option, Some, None, IfSome, refl, ◌∙◌, arith}
 use Rattle.std.proofs.lemmas.Bool.{eqb-true}
-use Rattle.std.specs.List.{list_any, range_with_len, AllByRecursion}
+use Rattle.std.specs.List.{range_with_len, AllByRecursion}
 use Rattle.std.proofs.lemmas.List.FromFn.{length-range_with_len, get_or-range_with_len}
-use Rattle.mp_model.specs.Network.{Network, Junction, no_junction, junction_at, from_of, to_of, has, link_numbers, movement_numbers, numbers_to}
+use Rattle.mp_model.specs.Network.{Network, Junction, no_junction, junction_at, from_of, to_of, has, link_numbers, movement_numbers}
 use Rattle.mp_model.specs.NetworkRules.{IsNetwork, HasStages}
 use Rattle.mp_netfile.specs.Numbered.{IsLink, IsMovement, IsJunction, IsTarget, IsBetweenLinks}
 use Rattle.mp_netfile.proofs.Spotless.{each, at}

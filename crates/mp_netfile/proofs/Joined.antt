@@ -1,5 +1,5 @@
 -- The parts of a tree, joined from those of its sections.
-use Rattle.std.proofs.Common.{◌≡◌, ℕ, ◌*◌, ◌+◌, ◌≤◌, ◌<◌, ◌^◌, List, [], ◌∷◌, length, map, Option, Some, codes, refl, ap, sym, ◌∙◌, arith}
+use Rattle.std.proofs.Common.{◌≡◌, ℕ, ◌≤◌, List, [], ◌∷◌, length, map, Some, codes, refl, ap, sym, ◌∙◌, arith}
 use Rattle.toml.specs.Data.{Data, Members, table}
 use Rattle.toml.specs.Parse.{parse_document}
 use Rattle.mp_model.specs.Network.{Link, Movement, Junction, Network}
@@ -9,7 +9,8 @@ use Rattle.mp_net.specs.declared.parts.JunctionPart.{JunctionPart}
 use Rattle.mp_net.specs.Parts.{link_of, movement_of, junction_of}
 use Rattle.mp_tree.specs.Tree.{section}
 use Rattle.mp_tree.proofs.Widths.{section-few}
-use Rattle.mp_netfile.specs.Meaning.{number_at, names_of, name_at, link_from, movement_from, junction_from, network_from}
+use Rattle.mp_netfile.specs.Values.{number_at}
+use Rattle.mp_netfile.specs.Meaning.{names_of, link_from, movement_from, junction_from, network_from}
 use Rattle.mp_netfile.specs.Faults.{HasFewTables}
 
 pub map-map : {A B C : Type 0} (f : A → B) (g : B → C) (xs : List A) → map g (map f xs) ≡ map (λ x. g (f x)) xs
@@ -24,7 +25,7 @@ movement_names names movements ms same =
     sym (map-map movement_of (λ (m : Movement). m.name) movements) ∙ ap (map (λ (m : Movement). m.name)) same ∙ map-map (movement_from names) (λ (m : Movement). m.name) ms
 
 abbrev pub the_network : ℕ → ℕ → List Link → List Movement → List Junction → Network
-the_network shares per links movements junctions = record { shares = shares; per = per; links = links; movements = movements; junctions = junctions }
+the_network shares per links movements junctions = record { shares = shares; per = per; delay = 0; links = links; movements = movements; junctions = junctions }
 
 pub parts_joined : (d : Data) (shares per : ℕ) (links : List LinkPart) (movements : List MovementPart) (junctions : List JunctionPart) (ls ms js : List Data)
     → ls ≡ section (codes "link") d → ms ≡ section (codes "movement") d → js ≡ section (codes "junction") d → shares ≡ number_at (codes "shares") d → per ≡ number_at (codes "per") d

@@ -1,6 +1,6 @@
 -- Where no name stands twice, each is found at its number.
-use Rattle.std.proofs.Common.{◌≡◌, ℕ, ◌+◌, ◌-◌, ◌≤◌, ◌<◌, zero, suc, Bool, true, false, List, [], ◌∷◌, length, map, get_or, Option, Some, unwrap_or, refl, ap, sym, ◌∙◌, arith}
-use Rattle.std.specs.List.{position_from, IsDistinct, AllByRecursion}
+use Rattle.std.proofs.Common.{◌≡◌, ℕ, ◌+◌, ◌-◌, ◌≤◌, ◌<◌, zero, suc, true, false, List, [], ◌∷◌, length, map, get_or, Some, unwrap_or, refl, ap, ◌∙◌, arith}
+use Rattle.std.specs.List.{position_from, IsDistinct}
 use Rattle.std.specs.Str.{bytes_eq}
 use Rattle.std.proofs.lemmas.List.{length-map, get_or-map}
 use Rattle.std.proofs.lemmas.Map.Keys.{IsDistinct-head, IsDistinct-tail}

@@ -6,6 +6,7 @@ pub mod Small
 pub mod Rightness
 pub mod Joined
 pub mod Rows
+pub mod Starts
 pub mod Depths
 pub mod Inside
 pub mod ReadBack

@@ -1,18 +1,30 @@
 -- The tree of a network breaks no rule on keys and types.
-use Rattle.std.proofs.Common.{◌≡◌, ℕ, Bool, true, false, List, [], ◌∷◌, map, Option, None, codes, ◌+◌, refl, ap, arith}
-use Rattle.std.specs.List.{position_from, list_all}
+use Rattle.std.proofs.Common.{◌≡◌, ℕ, suc, Bool, true, false, if◌then◌else◌, List, [], ◌∷◌, map, None, ◌+◌, refl, arith}
+use Rattle.std.specs.List.{position_from, list_all, AllByRecursion}
 use Rattle.toml.specs.Data.{Data, string, table}
-use Rattle.toml.specs.View.{items_of}
-use Rattle.mp_model.specs.Network.{Junction as JunctionRow, Network, movement_at}
+use Rattle.mp_model.specs.Network.{Movement as MovementRow, Junction as JunctionRow, Network, movement_at}
 use Rattle.mp_net.specs.declared.fault.Section.TheVariants.{Link, Movement, Junction}
-use Rattle.mp_tree.specs.Tree.{is_table, is_text, section}
+use Rattle.mp_tree.specs.Tree.{is_text}
 use Rattle.mp_netfile.specs.Keys.{unknown_key, missing_key, has_unlisted_key, lacks_key, is_array_of_texts}
-use Rattle.mp_netfile.specs.Printed.{link_tree, movement_tree, stage_tree, junction_tree, network_tree}
+use Rattle.mp_netfile.specs.Printed.{link_tree, movement_tree, stage_tree, junction_tree, network_tree, has_start_queue, version_for}
+use Rattle.mp_netfile.proofs.Starts.{by_start, starts, none_starts, not_above}
 use Rattle.mp_netfile.proofs.ReadBack.{items_list-of, all_tables, section_tables}
 
 no_place : {A : Type 0} (test : Data → Bool) (f : A → Data) (i : ℕ) (xs : List A) → ((x : A) → test (f x) ≡ false) → position_from test i (map f xs) ≡ None
 no_place test f i [] h = refl
 no_place test f i (x ∷ xs) h = rw (h x, no_place test f (i + 1) xs h)
+
+-- where no movement has a start queue, no table has the key of one
+none_listed : (net : Network) (i : ℕ) (ms : List MovementRow) → AllByRecursion (λ m. starts m ≡ false) ms → position_from (has_unlisted_key 1 Movement) i (map (movement_tree net) ms) ≡ None
+none_listed net i [] all = refl
+none_listed net i (m ∷ ms) all = rw (by_start (λ m. starts m ≡ false → has_unlisted_key 1 Movement (movement_tree net m) ≡ false) m (λ e. refl) (λ n e. absurd (omega (arith, not_above (suc n) e))) all.0, none_listed net (i + 1) ms all.1) refl
+
+listed_movements : (net : Network) → position_from (has_unlisted_key (version_for net) Movement) 1 (map (movement_tree net) net.movements) ≡ None
+listed_movements net = split (has_start_queue net) refl
+  where
+    split : (b : Bool) → has_start_queue net ≡ b → position_from (has_unlisted_key (if b then 2 else 1) Movement) 1 (map (movement_tree net) net.movements) ≡ None
+    split true e = no_place (has_unlisted_key 2 Movement) (movement_tree net) 1 net.movements (λ m. by_start (λ m. has_unlisted_key 2 Movement (movement_tree net m) ≡ false) m refl (λ n. refl))
+    split false e = none_listed net 1 net.movements (none_starts net.movements e)
 
 pub unknown_key-tree : (net : Network) → unknown_key (table (network_tree net)) ≡ None
 unknown_key-tree net =
@@ -21,9 +33,9 @@ unknown_key-tree net =
       s.0,
       s.1,
       s.2,
-      no_place (has_unlisted_key Link) link_tree 1 net.links (λ l. refl),
-      no_place (has_unlisted_key Movement) (movement_tree net) 1 net.movements (λ m. refl),
-      no_place (has_unlisted_key Junction) (junction_tree net) 1 net.junctions (λ j. refl),
+      no_place (has_unlisted_key (version_for net) Link) link_tree 1 net.links (λ l. refl),
+      listed_movements net,
+      no_place (has_unlisted_key (version_for net) Junction) (junction_tree net) 1 net.junctions (λ j. refl),
     )
 
 all_pass : {A : Type 0} (test : Data → Bool) (f : A → Data) (xs : List A) → ((x : A) → test (f x) ≡ true) → list_all test (map f xs) ≡ true
@@ -35,6 +47,9 @@ texts net ks = rw (items_list-of (map (λ k. string (movement_at net k).name) ks
 
 lacks_key-junction : (net : Network) (j : JunctionRow) → lacks_key Junction (junction_tree net j) ≡ false
 lacks_key-junction net j = rw (items_list-of (map (stage_tree net) j.stages), all_pass is_array_of_texts (stage_tree net) j.stages (texts net))
+
+lacks_key-movement : (net : Network) (m : MovementRow) → lacks_key Movement (movement_tree net m) ≡ false
+lacks_key-movement net m = by_start (λ m. lacks_key Movement (movement_tree net m) ≡ false) m refl (λ n. refl)
 
 pub missing_key-tree : (net : Network) → missing_key (table (network_tree net)) ≡ None
 missing_key-tree net =
@@ -50,6 +65,6 @@ missing_key-tree net =
       items_list-of (map (junction_tree net) net.junctions),
       all_tables (junction_tree net) net.junctions (λ j. refl),
       no_place (lacks_key Link) link_tree 1 net.links (λ l. refl),
-      no_place (lacks_key Movement) (movement_tree net) 1 net.movements (λ m. refl),
+      no_place (lacks_key Movement) (movement_tree net) 1 net.movements (lacks_key-movement net),
       no_place (lacks_key Junction) (junction_tree net) 1 net.junctions (lacks_key-junction net),
     )

@@ -1,33 +1,33 @@
 -- The tree of a network means the network.
-use Rattle.std.proofs.Common.{◌≡◌, ℕ, ◌+◌, ◌-◌, ◌*◌, ◌≤◌, ◌<◌, zero, suc, Bool, true, false, cond, not, ◌||◌, List, [], ◌∷◌, length, map, get_or, Option, Some, None, IfSome, Result, Ok, codes, refl, ap, sym, ◌∙◌, arith}
+use Rattle.std.proofs.Common.{◌≡◌, ℕ, ◌+◌, ◌-◌, ◌*◌, ◌<◌, zero, suc, Bool, true, false, cond, if◌then◌else◌, not, ◌||◌, List, [], ◌∷◌, length, map, get_or, Option, Some, None, Ok, codes, refl, ap, ◌∙◌, arith}
 use Rattle.std.specs.List.{position_from, find, range_with_len, AllByRecursion, list_all}
-use Rattle.std.specs.Str.{bytes_eq, is_utf8, IsUtf8}
+use Rattle.std.specs.Str.{IsUtf8}
 use Rattle.std.proofs.lemmas.List.{length-map}
 use Rattle.std.proofs.lemmas.Str.{is_utf8-from_IsUtf8}
-use Rattle.std.proofs.lemmas.Bool.Decides.{nat_tests}
-use Rattle.toml.specs.Data.{Data, Members, string, table}
+use Rattle.toml.specs.Data.{Data, string, table}
 use Rattle.toml.specs.Parse.{parse_document}
-use Rattle.toml.specs.View.{items_of}
-use Rattle.mp_model.specs.Network.{Link as LinkPart, Movement as MovementPart, Junction as JunctionPart, Network, no_link, no_movement, no_junction, link_at, movement_at, movement_numbers}
-use Rattle.mp_model.specs.NetworkRules.{IsAcceptable, IsNetwork, HasStages}
+use Rattle.mp_model.specs.Network.{Link as LinkPart, Movement as MovementPart, Junction as JunctionPart, Network, no_link, no_movement, no_junction, link_at, movement_at}
+use Rattle.mp_model.specs.NetworkRules.{IsAcceptable, HasStages}
 use Rattle.mp_model.specs.Names.{is_name, is_out}
 use Rattle.mp_net.specs.Spots.{first_spot, or_later, first_broken}
-use Rattle.mp_net.specs.NumberRules.{outside, bad_number, bad_link_name, top_has_bad_number, link_has_bad_number, movement_has_bad_number, junction_has_bad_number}
+use Rattle.mp_net.specs.NumberRules.{outside, bad_number, top_has_bad_number, link_has_bad_number, movement_has_bad_number, junction_has_bad_number}
 use Rattle.mp_net.specs.Rules.{later_rules, part_rules}
 use Rattle.mp_net.specs.declared.fault.NetRule.{NetRule}
 use Rattle.mp_net.specs.declared.fault.Spot.{Spot}
 use Rattle.mp_net.specs.declared.fault.Section.TheVariants.{Top, Link, Movement, Junction}
 use Rattle.mp_tree.specs.Tree.{items, section, text_or_empty}
 use Rattle.mp_netfile.specs.Keys.{unknown_key, missing_key}
-use Rattle.mp_netfile.specs.Meaning.{tree_meaning, tree_rules, text_meaning, meaning_of, tree_of, bad_version, bad_number_in, bad_name_in, has_bad_number, has_bad_name, network_from, stage_texts, texts_of, items_at, unless}
-use Rattle.mp_netfile.specs.Printed.{link_tree, movement_tree, stage_tree, junction_tree, network_tree, target_name}
+use Rattle.mp_netfile.specs.Meaning.{tree_meaning, tree_rules, tree_of, bad_version, bad_number_in, bad_name_in, has_bad_number, has_bad_name, network_from, texts_of, unless}
+use Rattle.mp_netfile.specs.Values.{is_version}
+use Rattle.mp_netfile.specs.Printed.{link_tree, movement_tree, stage_tree, junction_tree, network_tree, target_name, has_start_queue}
 use Rattle.mp_netfile.specs.Numbered.{IsLink, IsMovement, IsTarget}
-use Rattle.mp_netfile.proofs.Spotless.{IsSpotless, spotless, or_none, each, both, at}
+use Rattle.mp_netfile.proofs.Spotless.{spotless, or_none, each, both, at}
 use Rattle.mp_netfile.proofs.Inside.{between_links, has_stages}
 use Rattle.mp_netfile.proofs.Joined.{map-map}
 use Rattle.mp_netfile.proofs.Known.{link_known, movement_known}
 use Rattle.mp_netfile.proofs.Listed.{unknown_key-tree, missing_key-tree}
 use Rattle.mp_netfile.proofs.ReadBack.{HasEnds, IsPrintable, network_from-tree, section_tables, items_list-of}
+use Rattle.mp_netfile.proofs.Starts.{by_start}
 
 -- ---- no rule of the parts is broken
 
@@ -76,16 +76,18 @@ numbers-tree net none =
     let j = or_none _ _ h.top in
     let m = or_none _ _ j.0 in
     let l = or_none _ _ m.0 in
-    let p = or_none _ _ l.0 in
+    let d = or_none _ _ l.0 in
+    let p = or_none _ _ d.0 in
     let bad_link : LinkPart → Bool = λ link. outside 0 10000 link.burst || outside 0 (1000 * net.per) link.rate in
-    let bad_movement : MovementPart → Bool = λ movement. outside 1 net.shares movement.share || outside 1 1000 movement.flow in
+    let bad_movement : MovementPart → Bool = λ movement. outside 1 net.shares movement.share || outside 1 1000 movement.flow || outside 0 1000000 movement.start in
     let bad_junction : JunctionPart → Bool = λ junction. outside 1 16 (length junction.stages) in
     let top : has_bad_number net.shares net.per Top (table (network_tree net)) ≡ false =
     or_false _ _ (or_false _ _ (or_false _ _ (or_false (outside 1 1000 net.shares) (outside 1 3600 net.per) p.0 p.1) (same_length 1 128 link_tree net.links _ s.0 l.1)) (same_length 1 512 (movement_tree net) net.movements _ s.1 m.1)) (same_length 1 64 (junction_tree net) net.junctions _ s.2 j.1) in
     let links : position_from (has_bad_number net.shares net.per Link) 1 (section (codes "link") (table (network_tree net))) ≡ None =
     rw s.0 (none_placed (has_bad_number net.shares net.per Link) link_tree (λ link. bad_link link ≡ false) 1 net.links (λ link bad. bad) (none_entry bad_link net.links no_link h.links)) in
     let movements : position_from (has_bad_number net.shares net.per Movement) 1 (section (codes "movement") (table (network_tree net))) ≡ None =
-    rw s.1 (none_placed (has_bad_number net.shares net.per Movement) (movement_tree net) (λ movement. bad_movement movement ≡ false) 1 net.movements (λ movement bad. bad) (none_entry bad_movement net.movements no_movement h.movements)) in
+    rw s.1 (none_placed (has_bad_number net.shares net.per Movement) (movement_tree net) (λ movement. bad_movement movement ≡ false) 1 net.movements
+    (λ movement. by_start (λ m. bad_movement m ≡ false → has_bad_number net.shares net.per Movement (movement_tree net m) ≡ false) movement (λ bad. bad) (λ n bad. bad)) (none_entry bad_movement net.movements no_movement h.movements)) in
     let junctions : position_from (has_bad_number net.shares net.per Junction) 1 (section (codes "junction") (table (network_tree net))) ≡ None =
     rw s.2 (none_placed (has_bad_number net.shares net.per Junction) (junction_tree net) (λ junction. bad_junction junction ≡ false) 1 net.junctions (λ junction bad. rw (items_list-of (map (stage_tree net) junction.stages), length-map junction.stages (stage_tree net)) bad)
     (none_entry bad_junction net.junctions no_junction h.junctions)) in
@@ -129,7 +131,8 @@ stages_named net (stage ∷ stages) a all = rw (items_list-of (map (λ k. string
 bad_movement_name : (net : Network) (movement : MovementPart) → IsAcceptable net → is_name movement.name ≡ true → HasEnds net movement → has_bad_name Movement (movement_tree net movement) ≡ false
 bad_movement_name net movement a name there =
     let from = link_named net movement.from a there.0 in
-    or_false _ _ (or_false _ _ (or_false _ _ (is_name_not movement.name name) (is_name_not (link_at net movement.from).name from.0)) from.1) (is_name_not (target_name net movement.to) (target_named net movement.to a there.1))
+    let named = or_false _ _ (or_false _ _ (or_false _ _ (is_name_not movement.name name) (is_name_not (link_at net movement.from).name from.0)) from.1) (is_name_not (target_name net movement.to) (target_named net movement.to a there.1)) in
+    by_start (λ m. has_bad_name Movement (movement_tree net m) ≡ false) movement named (λ n. named)
 
 bad_junction_name : (net : Network) (junction : JunctionPart) → IsAcceptable net → is_name junction.name ≡ true → AllByRecursion (AllByRecursion (IsMovement net)) junction.stages → has_bad_name Junction (junction_tree net junction) ≡ false
 bad_junction_name net junction a name all =
@@ -161,8 +164,12 @@ printable net a = record {
   stages = all_stages net a;
 }
 
-version_one : (net : Network) → bad_version (table (network_tree net)) ≡ None
-version_one net = refl
+version_known : (net : Network) → bad_version (table (network_tree net)) ≡ None
+version_known net = split (has_start_queue net)
+  where
+    split : (b : Bool) → first_spot (not (is_version (if b then 2 else 1))) None None None ≡ None
+    split true = refl
+    split false = refl
 
 -- a tree that breaks no rule means what it says
 joined : (d : Data) (net : Network) → unknown_key d ≡ None → missing_key d ≡ None → bad_version d ≡ None → bad_number_in d ≡ None → bad_name_in d ≡ None
@@ -172,11 +179,11 @@ joined d net keys missing version numbers names same later =
     let all : first_broken (tree_rules d) ≡ None = rw (keys, missing, version, numbers, names) hold in
     ap (unless (network_from d)) all ∙ ap (λ (n : Network). unless n None) same
 
-pub tree_meaning-tree : (net : Network) → IsAcceptable net → first_broken (part_rules net) ≡ None → tree_meaning (table (network_tree net)) ≡ Ok net
-tree_meaning-tree net a sound =
+pub tree_meaning-tree : (net : Network) → IsAcceptable net → first_broken (part_rules net) ≡ None → net.delay ≡ 0 → tree_meaning (table (network_tree net)) ≡ Ok net
+tree_meaning-tree net a sound prompt =
     let number = none_of _ _ _ sound in
     let name = none_of _ _ _ number.1 in
-    joined (table (network_tree net)) net (unknown_key-tree net) (missing_key-tree net) (version_one net) (numbers-tree net number.0) (names-tree net a) (network_from-tree net (printable net a)) name.1
+    joined (table (network_tree net)) net (unknown_key-tree net) (missing_key-tree net) (version_known net) (numbers-tree net number.0) (names-tree net a) (network_from-tree net (printable net a) prompt) name.1
 
-pub text_means : (net : Network) (bytes : List ℕ) → tree_meaning (table (network_tree net)) ≡ Ok net → IsUtf8 bytes → parse_document bytes ≡ Some (network_tree net) → text_meaning bytes ≡ Ok net
-text_means net bytes means utf8 read = rw (is_utf8-from_IsUtf8 bytes utf8, read) means
+pub tree_read : (net : Network) (bytes : List ℕ) → IsUtf8 bytes → parse_document bytes ≡ Some (network_tree net) → tree_of bytes ≡ Some (network_tree net)
+tree_read net bytes utf8 read = rw (is_utf8-from_IsUtf8 bytes utf8, read) refl

@@ -1,16 +1,16 @@
 -- The tree of a network reads as the network.
-use Rattle.std.proofs.Common.{◌≡◌, ℕ, ◌+◌, ◌-◌, ◌≤◌, ◌<◌, zero, suc, Bool, true, false, not, List, [], ◌∷◌, length, map, get_or, Option, Some, None, IfSome, unwrap_or, codes, refl, ap, sym, ◌∙◌, arith}
-use Rattle.std.specs.List.{position_from, list_all, list_any, AllByRecursion}
-use Rattle.std.specs.Str.{bytes_eq}
-use Rattle.toml.specs.Data.{Data, string, array, table, Items}
+use Rattle.std.proofs.Common.{◌≡◌, ℕ, true, false, List, [], ◌∷◌, map, Option, Some, None, codes, refl, ap, sym, ◌∙◌}
+use Rattle.std.specs.List.{list_all, AllByRecursion}
+use Rattle.toml.specs.Data.{Data, string, table}
 use Rattle.toml.specs.View.{items_of}
 use Rattle.mp_model.specs.Network.{Link, Movement, Junction, Network, link_at, movement_at}
 use Rattle.mp_model.specs.Names.{is_out}
 use Rattle.mp_netfile.specs.Numbered.{IsLink, IsMovement, IsTarget}
 use Rattle.mp_tree.specs.Tree.{items, items_list, is_table, section, text_or_empty}
-use Rattle.mp_netfile.specs.Meaning.{number_of, names_of, name_at, texts_of, link_from, target_from, movement_from, junction_from, stage_texts, network_from}
+use Rattle.mp_netfile.specs.Meaning.{number_of, names_of, name_at, texts_of, link_from, target_from, movement_from, junction_from, network_from}
 use Rattle.mp_netfile.proofs.Joined.{map-map}
 use Rattle.mp_netfile.specs.Printed.{link_tree, target_name, movement_tree, stage_tree, junction_tree, network_tree}
+use Rattle.mp_netfile.proofs.Starts.{by_start}
 
 -- a movement goes from a link to a target
 abbrev pub HasEnds : Network → Movement → Type 0
@@ -53,11 +53,22 @@ target_from-tree : (net : Network) (p : IsPrintable net) (to : Option ℕ) → I
 target_from-tree net p None there = refl
 target_from-tree net p (Some l) there = let known = p.links l there in rw (known.1, known.0)
 
+-- what a movement's table reads as, before its names are looked up
+movement_printed : (net : Network) (names : List (List ℕ)) (m : Movement)
+    → movement_from names (movement_tree net m) ≡ record { name = m.name; from = number_of names (link_at net m.from).name; to = target_from names (target_name net m.to); share = m.share; flow = m.flow; start = m.start }
+movement_printed net names m =
+    by_start (λ m. movement_from names (movement_tree net m) ≡ record { name = m.name; from = number_of names (link_at net m.from).name; to = target_from names (target_name net m.to); share = m.share; flow = m.flow; start = m.start })
+    m refl (λ n. refl)
+
 movement_from-tree : (net : Network) (p : IsPrintable net) (m : Movement) → HasEnds net m → movement_from (map (λ link. link.name) net.links) (movement_tree net m) ≡ m
 movement_from-tree net p m there =
     let from = (p.links m.from there.0).0 in
     let to = target_from-tree net p m.to there.1 in
-    rw (from, to)
+    rw (movement_printed net (map (λ link. link.name) net.links) m, from, to) refl
+
+movement_names : (net : Network) (ms : List Movement) → names_of (map (movement_tree net) ms) ≡ map (λ m. m.name) ms
+movement_names net [] = refl
+movement_names net (m ∷ ms) = rw (by_start (λ m. name_at (codes "name") (movement_tree net m) ≡ m.name) m refl (λ n. refl), movement_names net ms) refl
 
 junction_from-tree : (net : Network) (p : IsPrintable net) (j : Junction) → AllByRecursion (AllByRecursion (IsMovement net)) j.stages
     → junction_from (map (λ m. m.name) net.movements) (junction_tree net j) ≡ j
@@ -85,14 +96,21 @@ map_any : {A B : Type 0} (f : A → B) (g : B → A) (xs : List A) → ((x : A) 
 map_any f g [] h = refl
 map_any f g (x ∷ xs) h = rw (h x, map_any f g xs h)
 
-pub network_from-tree : (net : Network) → IsPrintable net → network_from (table (network_tree net)) ≡ net
-network_from-tree net p =
+-- a network with a delay of 0
+abbrev prompt : Network → Network
+prompt net = record { shares = net.shares; per = net.per; delay = 0; links = net.links; movements = net.movements; junctions = net.junctions }
+
+prompt_from-tree : (net : Network) → IsPrintable net → network_from (table (network_tree net)) ≡ prompt net
+prompt_from-tree net p =
     let s = section_tables net in
     let links : map link_from (map link_tree net.links) ≡ net.links = map_any link_tree link_from net.links link_from-tree in
     let link_names : names_of (map link_tree net.links) ≡ map (λ link. link.name) net.links = map-map link_tree (name_at (codes "name")) net.links in
-    let movement_names : names_of (map (movement_tree net) net.movements) ≡ map (λ m. m.name) net.movements = map-map (movement_tree net) (name_at (codes "name")) net.movements in
     let movements : map (movement_from (map (λ link. link.name) net.links)) (map (movement_tree net) net.movements) ≡ net.movements =
     map_each (HasEnds net) (movement_tree net) (movement_from (map (λ link. link.name) net.links)) net.movements (movement_from-tree net p) p.ends in
     let junctions : map (junction_from (map (λ m. m.name) net.movements)) (map (junction_tree net) net.junctions) ≡ net.junctions =
     map_each (λ j. AllByRecursion (AllByRecursion (IsMovement net)) j.stages) (junction_tree net) (junction_from (map (λ m. m.name) net.movements)) net.junctions (junction_from-tree net p) p.stages in
-    rw (s.0, s.1, s.2, links, link_names, movement_names, movements, junctions)
+    rw (s.0, s.1, s.2, links, link_names, movement_names net net.movements, movements, junctions)
+
+pub network_from-tree : (net : Network) → IsPrintable net → net.delay ≡ 0 → network_from (table (network_tree net)) ≡ net
+network_from-tree net p none =
+    prompt_from-tree net p ∙ ap (λ n. record { shares = net.shares; per = net.per; delay = n; links = net.links; movements = net.movements; junctions = net.junctions }) (sym none)

@@ -1,10 +1,10 @@
 -- What a right tree gives: its parts can be read, and they break no rule on numbers and names.
-use Rattle.std.proofs.Common.{◌≡◌, ℕ, ◌≤◌, ◌<◌, ◌*◌, ◌^◌, Bool, true, false, not, ◌||◌, List, length, map, get_or, Option, Some, None, Result, Ok, Err, IfErr, codes, refl, ap, sym, ◌∙◌, arith}
-use Rattle.std.specs.List.{position_from, find, range_with_len, AllByRecursion}
+use Rattle.std.proofs.Common.{◌≡◌, ℕ, ◌≤◌, ◌*◌, Bool, false, ◌||◌, List, length, map, Option, Some, None, Result, Ok, Err, IfErr, codes, refl, ap, sym, ◌∙◌, arith}
+use Rattle.std.specs.List.{position_from, AllByRecursion}
 use Rattle.std.proofs.lemmas.List.{length-map}
 use Rattle.toml.specs.Data.{Data}
 use Rattle.mp_model.specs.Network.{Link as LinkPart, Movement as MovementPart, Junction as JunctionPart, Network, no_link, no_movement, no_junction}
-use Rattle.mp_model.specs.Names.{is_name, is_out}
+use Rattle.mp_model.specs.Names.{is_out}
 use Rattle.mp_net.specs.Spots.{first_spot, or_later, first_broken}
 use Rattle.mp_net.specs.NumberRules.{outside, top_has_bad_number, bad_number, bad_link_name}
 use Rattle.mp_net.specs.Rules.{later_rules, part_rules}
@@ -15,11 +15,12 @@ use Rattle.mp_net.specs.declared.fault.NetRule.{NetRule}
 use Rattle.mp_net.specs.declared.fault.Spot.{Spot}
 use Rattle.mp_net.specs.declared.fault.Section.TheVariants.{Top, Link, Movement, Junction}
 use Rattle.mp_tree.specs.Tree.{section, items}
-use Rattle.mp_netfile.specs.Meaning.{number_at, name_at, names_of, items_at, stage_texts, link_from, movement_from, junction_from, network_from, number_of, texts_of, has_bad_number, has_bad_name, tree_rules, tree_meaning, unless}
+use Rattle.mp_netfile.specs.Values.{number_at}
+use Rattle.mp_netfile.specs.Meaning.{names_of, items_at, stage_texts, link_from, movement_from, junction_from, network_from, number_of, texts_of, has_bad_number, has_bad_name, tree_rules, tree_meaning, unless}
 use Rattle.mp_netfile.specs.Right.{IsRight, HasName, IsLinkTable, IsMovementTable, HasParts}
 use Rattle.mp_netfile.specs.Faults.{IsFaultOf}
-use Rattle.mp_netfile.proofs.Spotless.{IsSpotless, spotless, or_none, not_false, none_placed, each, both, mapped, none_numbered}
-use Rattle.mp_netfile.proofs.Small.{IsTopInRange, top_in_range, IsLinkInRange, link_in_range, IsMovementInRange, movement_in_range, at_most}
+use Rattle.mp_netfile.proofs.Spotless.{spotless, or_none, not_false, none_placed, each, both, mapped, none_numbered}
+use Rattle.mp_netfile.proofs.Small.{IsTopInRange, top_in_range, link_in_range, movement_in_range, at_most}
 
 -- what a right tree says of each of its tables
 record IsEachRight (d : Data) : Type 0 where
@@ -64,6 +65,7 @@ movement_table shares per x few numbers names =
       name = not_false _ (or_none _ _ (or_none _ _ (or_none _ _ names).0).0).0;
       share = omega (arith, at_most 1 shares (number_at (codes "share") x) range.share);
       flow = omega (arith, at_most 1 1000 (number_at (codes "flow") x) range.flow);
+      start = omega (arith, at_most 0 1000000 (number_at (codes "start") x) range.start);
     }
 
 pub parts_there : (d : Data) → IsRight d → HasParts d
@@ -102,14 +104,14 @@ numbers_hold d h =
     let to_movement = movement_from (names_of links) in
     let to_junction = junction_from (names_of movements) in
     let top : top_has_bad_number (network_from d) ≡ false =
-    or_false _ _ (or_false _ _ (or_false _ _ (or_false _ _ h.top.shares h.top.per) (same_length 1 128 to_link links h.top.links)) (same_length 1 512 to_movement movements h.top.movements)) (same_length 1 64 to_junction junctions h.top.junctions) in
+    or_false _ _ (or_false _ _ (or_false _ _ (or_false _ _ (or_false _ _ h.top.shares h.top.per) refl) (same_length 1 128 to_link links h.top.links)) (same_length 1 512 to_movement movements h.top.movements)) (same_length 1 64 to_junction junctions h.top.junctions) in
     let bad_link : LinkPart → Bool = λ link. outside 0 10000 link.burst || outside 0 (1000 * per) link.rate in
-    let bad_movement : MovementPart → Bool = λ movement. outside 1 shares movement.share || outside 1 1000 movement.flow in
+    let bad_movement : MovementPart → Bool = λ movement. outside 1 shares movement.share || outside 1 1000 movement.flow || outside 0 1000000 movement.start in
     let bad_junction : JunctionPart → Bool = λ junction. outside 1 16 (length junction.stages) in
     let all_links : AllByRecursion (λ link. bad_link link ≡ false) (map to_link links) =
     mapped _ (λ link. bad_link link ≡ false) to_link links (λ x bad. let range = link_in_range shares per x bad in or_false _ _ range.burst range.rate) h.links in
     let all_movements : AllByRecursion (λ movement. bad_movement movement ≡ false) (map to_movement movements) =
-    mapped _ (λ movement. bad_movement movement ≡ false) to_movement movements (λ x bad. let range = movement_in_range shares per x bad in or_false _ _ range.share range.flow) h.movements in
+    mapped _ (λ movement. bad_movement movement ≡ false) to_movement movements (λ x bad. let range = movement_in_range shares per x bad in or_false _ _ (or_false _ _ range.share range.flow) range.start) h.movements in
     let all_junctions : AllByRecursion (λ junction. bad_junction junction ≡ false) (map to_junction junctions) =
     mapped _ (λ junction. bad_junction junction ≡ false) to_junction junctions (λ x bad. rw (length-map (stage_texts x) (map (number_of (names_of movements))), length-map (items_at (codes "stages") x) (λ stage. texts_of (items stage))) bad) h.junctions in
     nowhere _ _ _ _ top (none_numbered bad_link (map to_link links) no_link all_links) (none_numbered bad_movement (map to_movement movements) no_movement all_movements) (none_numbered bad_junction (map to_junction junctions) no_junction all_junctions)

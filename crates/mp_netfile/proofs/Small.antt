@@ -1,17 +1,14 @@
 -- What the ranges of a file say of its numbers.
-use Rattle.std.proofs.Common.{◌≡◌, ℕ, ℤ, pos, negsuc, ◌≤◌, ◌<◌, ◌*◌, ◌^◌, Bool, true, false, nat_lt, ◌||◌, Option, None, length, codes, sym, arith, refl, ap, ◌∙◌}
-use Rattle.std.proofs.lemmas.Bool.{false≢true}
+use Rattle.std.proofs.Common.{◌≡◌, ℕ, ℤ, pos, negsuc, ◌≤◌, ◌*◌, false, length, codes, arith, refl}
 use Rattle.std.proofs.lemmas.Bool.Decides.{nat_tests}
-use Rattle.std.specs.List.{position_from, AllByRecursion}
 use Rattle.toml.specs.Data.{Data}
-use Rattle.mp_model.specs.Names.{is_name, is_out}
-use Rattle.mp_net.specs.Spots.{first_spot}
 use Rattle.mp_net.specs.NumberRules.{outside}
-use Rattle.mp_net.specs.declared.fault.Section.TheVariants.{Top, Link, Movement, Junction}
+use Rattle.mp_net.specs.declared.fault.Section.TheVariants.{Top, Link, Movement}
 use Rattle.mp_tree.specs.Tree.{section}
-use Rattle.mp_netfile.specs.Keys.{first_table}
-use Rattle.mp_netfile.specs.Meaning.{is_outside, natural, integer_or_zero, has_bad_number, has_bad_name, number_at, name_at, bad_number_in, items_at}
-use Rattle.mp_netfile.proofs.Spotless.{or_none, not_false}
+use Rattle.mp_netfile.specs.Keys.{first_table, has_unlisted_key, unknown_key}
+use Rattle.mp_netfile.specs.Values.{natural, integer_or_zero, number_at, version_of}
+use Rattle.mp_netfile.specs.Meaning.{is_outside, has_bad_number, bad_number_in}
+use Rattle.mp_netfile.proofs.Spotless.{or_none}
 
 pub inside : (low high : ℕ) (z : ℤ) → is_outside low high z ≡ false → outside low high (natural z) ≡ false
 inside low high (pos n) h = h
@@ -62,12 +59,22 @@ link_in_range shares per link h =
 pub record IsMovementInRange (shares : ℕ) (movement : Data) : Type 0 where
   pub share : outside 1 shares (number_at (codes "share") movement) ≡ false
   pub flow : outside 1 1000 (number_at (codes "flow") movement) ≡ false
+  pub start : outside 0 1000000 (number_at (codes "start") movement) ≡ false
 
 pub movement_in_range : (shares per : ℕ) (movement : Data) → has_bad_number shares per Movement movement ≡ false → IsMovementInRange shares movement
 movement_in_range shares per movement h =
-    let both = or_none _ _ h in
-    record { share = inside 1 shares (integer_or_zero (codes "share") movement) both.0; flow = inside 1 1000 (integer_or_zero (codes "flow") movement) both.1 }
+    let last = or_none _ _ h in
+    let both = or_none _ _ last.0 in
+    record {
+      share = inside 1 shares (integer_or_zero (codes "share") movement) both.0;
+      flow = inside 1 1000 (integer_or_zero (codes "flow") movement) both.1;
+      start = inside 0 1000000 (integer_or_zero (codes "start") movement) last.1;
+    }
 
 -- the rule on numbers, under the numbers of the top
 pub bad_number-below : (d : Data) (shares per : ℕ) → shares ≡ number_at (codes "shares") d → per ≡ number_at (codes "per") d → first_table (has_bad_number shares per) d ≡ bad_number_in d
 bad_number-below d shares per s p = rw (s, p) refl
+
+-- the rule on keys, under the version of the tree
+pub unknown_key-under : (d : Data) (version : ℕ) → version ≡ version_of d → first_table (has_unlisted_key version) d ≡ unknown_key d
+unknown_key-under d version v = rw v refl

@@ -1,8 +1,7 @@
 -- What no spot of a rule says of each table.
-use Rattle.std.proofs.Common.{◌≡◌, ℕ, ◌+◌, ◌-◌, ◌≤◌, ◌<◌, zero, suc, Bool, true, false, cond, not, ◌||◌, List, [], ◌∷◌, length, map, get_or, Option, Some, None, refl, ap, sym, ◌∙◌, arith}
+use Rattle.std.proofs.Common.{◌≡◌, ℕ, ◌+◌, ◌-◌, ◌<◌, zero, suc, Bool, true, false, cond, not, ◌||◌, List, [], ◌∷◌, length, map, get_or, Option, Some, None, refl, arith}
 use Rattle.std.specs.List.{position_from, find, range_with_len, AllByRecursion}
 use Rattle.mp_net.specs.Spots.{first_spot}
-use Rattle.mp_net.specs.declared.fault.Spot.{Spot}
 
 -- a test that is not passed at the top, and no place in a section
 pub record IsSpotless (t : Bool) (l k j : Option ℕ) : Type 0 where

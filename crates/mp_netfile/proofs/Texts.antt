@@ -1,10 +1,9 @@
 -- What a file means, from what its reader found.
-use Rattle.std.proofs.Common.{◌≡◌, ℕ, ◌≤◌, Bool, true, false, nat_lt, List, length, Option, Some, None, Result, Err, IsUtf8, refl, ap, sym, ◌∙◌, arith, rules}
-use Rattle.std.proofs.lemmas.Bool.{cases_Bool}
+use Rattle.std.proofs.Common.{◌≡◌, ℕ, ◌≤◌, Bool, true, false, nat_lt, List, length, Some, IsUtf8, refl, arith}
 use Rattle.std.proofs.lemmas.Bool.Decides.{nat_tests}
 use Rattle.std.proofs.lemmas.Str.{IsUtf8-from_is_utf8, is_utf8-from_IsUtf8}
 use Rattle.std.specs.Str.{is_utf8}
-use Rattle.toml.specs.Data.{Data, Members, table}
+use Rattle.toml.specs.Data.{Members, table}
 use Rattle.toml.specs.Parse.{parse_document}
 use Rattle.mp_net.specs.declared.fault.NetRule.TheVariants as rule
 use Rattle.mp_netfile.specs.Meaning.{file_meaning, tree_meaning, at_top}

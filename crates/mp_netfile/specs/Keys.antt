@@ -1,5 +1,5 @@
 -- The rules on keys and types of a network file, each with the first spot where it is broken.
-use Rattle.std.specs.Prelude.{ℕ, Bool, true, false, not, ◌&&◌, ◌||◌, List, [], ◌∷◌, Option, Some, None, is_none, codes}
+use Rattle.std.specs.Prelude.{ℕ, Bool, true, false, not, ◌&&◌, ◌||◌, if◌then◌else◌, List, [], ◌∷◌, Option, Some, None, is_none, codes}
 use Rattle.std.specs.List.{list_all, position_from}
 use Rattle.toml.specs.Data.{Data, get, as_integer}
 use Rattle.mp_net.specs.Spots.{first_spot}
@@ -7,6 +7,7 @@ use Rattle.mp_net.specs.declared.fault.Section.{Section}
 use Rattle.mp_net.specs.declared.fault.Section.TheVariants.{Top, Link, Movement, Junction}
 use Rattle.mp_net.specs.declared.fault.Spot.{Spot}
 use Rattle.mp_tree.specs.Tree.{has_unknown_key, items, text_at, integer_at, is_text, is_array, is_array_of_tables, section}
+use Rattle.mp_netfile.specs.Values.{version_of, has_starts}
 
 -- This is the first spot where a table breaks a rule, tried at the top table first, then link by link, movement by movement and junction by junction.
 abbrev pub first_table : (Section → Data → Bool) → Data → Option Spot
@@ -14,20 +15,24 @@ first_table breaks tree =
     first_spot (breaks Top tree) (position_from (breaks Link) 1 (section (codes "link") tree)) (position_from (breaks Movement) 1 (section (codes "movement") tree))
     (position_from (breaks Junction) 1 (section (codes "junction") tree))
 
--- These are the keys that are listed for a table.
-abbrev pub listed_keys : Section → List (List ℕ)
-listed_keys Top = codes "version" ∷ codes "shares" ∷ codes "per" ∷ codes "link" ∷ codes "movement" ∷ codes "junction" ∷ []
-listed_keys Link = codes "name" ∷ codes "burst" ∷ codes "rate" ∷ []
-listed_keys Movement = codes "name" ∷ codes "from" ∷ codes "to" ∷ codes "share" ∷ codes "flow" ∷ []
-listed_keys Junction = codes "name" ∷ codes "stages" ∷ []
+-- These are the keys of a movement that the files of a version list beyond those of version 1.
+abbrev pub start_keys : ℕ → List (List ℕ)
+start_keys version = if has_starts version then codes "start" ∷ [] else []
 
--- A table has a key that is not listed for it.
-abbrev pub has_unlisted_key : Section → Data → Bool
-has_unlisted_key kind row = has_unknown_key (listed_keys kind) row
+-- These are the keys that the files of a version list for a table.
+abbrev pub listed_keys : ℕ → Section → List (List ℕ)
+listed_keys version Top = codes "version" ∷ codes "shares" ∷ codes "per" ∷ codes "link" ∷ codes "movement" ∷ codes "junction" ∷ []
+listed_keys version Link = codes "name" ∷ codes "burst" ∷ codes "rate" ∷ []
+listed_keys version Movement = codes "name" ∷ codes "from" ∷ codes "to" ∷ codes "share" ∷ codes "flow" ∷ start_keys version
+listed_keys version Junction = codes "name" ∷ codes "stages" ∷ []
+
+-- A table of a file of this version has a key that is not listed for it.
+abbrev pub has_unlisted_key : ℕ → Section → Data → Bool
+has_unlisted_key version kind row = has_unknown_key (listed_keys version kind) row
 
 -- This is the first table with a key that is not listed for it.
 abbrev pub unknown_key : Data → Option Spot
-unknown_key tree = first_table has_unlisted_key tree
+unknown_key tree = first_table (has_unlisted_key (version_of tree)) tree
 
 -- A table has no text at a key.
 abbrev pub lacks_text : List ℕ → Data → Bool
@@ -62,6 +67,7 @@ lacks_key Top row =
 lacks_key Link row = lacks_text (codes "name") row || is_no_integer (get (codes "burst") row) || is_no_integer (get (codes "rate") row)
 lacks_key Movement row =
     lacks_text (codes "name") row || lacks_text (codes "from") row || lacks_text (codes "to") row || lacks_integer (codes "share") row || lacks_integer (codes "flow") row
+    || is_no_integer (get (codes "start") row)
 lacks_key Junction row = lacks_text (codes "name") row || is_no_stages (get (codes "stages") row)
 
 -- This is the first table that lacks a key or has another type at one.

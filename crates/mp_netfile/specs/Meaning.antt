@@ -1,5 +1,5 @@
 -- What a network file means: a network, or the first rule that is broken with its first spot.
-use Rattle.std.specs.Prelude.{ℕ, ℤ, pos, negsuc, ◌*◌, nat_lt, Bool, true, false, not, ◌||◌, ◌==◌, if◌then◌else◌, List, [], ◌∷◌, length, map, Option, Some, None, unwrap_or, codes, Result, Ok, Err}
+use Rattle.std.specs.Prelude.{ℕ, ℤ, pos, negsuc, ◌*◌, nat_lt, Bool, true, false, not, ◌||◌, if◌then◌else◌, List, [], ◌∷◌, length, map, Option, Some, None, unwrap_or, codes, Result, Ok, Err}
 use Rattle.std.specs.List.{list_all, position_from}
 use Rattle.std.specs.Str.{bytes_eq, is_utf8}
 use Rattle.toml.specs.Data.{Data, table, get, Members}
@@ -14,23 +14,11 @@ use Rattle.mp_net.specs.declared.fault.NetRule.TheVariants as rule
 use Rattle.mp_net.specs.declared.fault.Section.{Section}
 use Rattle.mp_net.specs.declared.fault.Section.TheVariants.{Top, Link as LinkSection, Movement as MovementSection, Junction as JunctionSection}
 use Rattle.mp_net.specs.declared.fault.Spot.{Spot}
-use Rattle.mp_tree.specs.Tree.{text_at, integer_at, items, section, text_or_empty}
+use Rattle.mp_tree.specs.Tree.{text_at, items, section, text_or_empty}
+use Rattle.mp_netfile.specs.Values.{integer_or_zero, number_at, version_of, is_version}
 use Rattle.mp_netfile.specs.Keys.{first_table, unknown_key, missing_key}
 
 -- ---- what a tree of the right keys and types says
-
--- This is the integer at a key, and 0 where the key is absent.
-abbrev pub integer_or_zero : List ℕ → Data → ℤ
-integer_or_zero key row = unwrap_or (integer_at key row) (pos 0)
-
--- This is a signed number that is not below 0, and 0 for one that is.
-abbrev pub natural : ℤ → ℕ
-natural (pos n) = n
-natural (negsuc n) = 0
-
--- This is the number at a key, and 0 where the key is absent.
-abbrev pub number_at : List ℕ → Data → ℕ
-number_at key row = natural (integer_or_zero key row)
 
 -- This is the text at a key, and the empty one where the key is absent.
 abbrev pub name_at : List ℕ → Data → List ℕ
@@ -77,13 +65,14 @@ movement_from links movement = record {
   to = target_from links (name_at (codes "to") movement);
   share = number_at (codes "share") movement;
   flow = number_at (codes "flow") movement;
+  start = number_at (codes "start") movement;
 }
 
 -- This is the junction of a table, where the movements have these names.
 abbrev pub junction_from : List (List ℕ) → Data → Junction
 junction_from movements junction = record { name = name_at (codes "name") junction; stages = map (map (number_of movements)) (stage_texts junction) }
 
--- This is the network of a tree.
+-- This is the network of a tree. Its reports are prompt: no version names a delay.
 abbrev pub network_from : Data → Network
 network_from tree =
     let links = section (codes "link") tree in
@@ -91,6 +80,7 @@ network_from tree =
     record {
       shares = number_at (codes "shares") tree;
       per = number_at (codes "per") tree;
+      delay = 0;
       links = map link_from links;
       movements = map (movement_from (names_of links)) movements;
       junctions = map (junction_from (names_of movements)) (section (codes "junction") tree);
@@ -98,9 +88,9 @@ network_from tree =
 
 -- ---- the rules on what it says
 
--- The version of a tree is not 1, which is told at the top.
+-- The version of a tree is none of network files, which is reported at the top.
 abbrev pub bad_version : Data → Option Spot
-bad_version tree = first_spot (not (number_at (codes "version") tree == 1)) None None None
+bad_version tree = first_spot (not (is_version (version_of tree))) None None None
 
 -- An integer is outside a range of numbers.
 abbrev pub is_outside : ℕ → ℕ → ℤ → Bool
@@ -113,7 +103,9 @@ has_bad_number shares per Top top =
     is_outside 1 1000 (integer_or_zero (codes "shares") top) || is_outside 1 3600 (integer_or_zero (codes "per") top)
     || outside 1 128 (length (section (codes "link") top)) || outside 1 512 (length (section (codes "movement") top)) || outside 1 64 (length (section (codes "junction") top))
 has_bad_number shares per LinkSection link = is_outside 0 10000 (integer_or_zero (codes "burst") link) || is_outside 0 (1000 * per) (integer_or_zero (codes "rate") link)
-has_bad_number shares per MovementSection movement = is_outside 1 shares (integer_or_zero (codes "share") movement) || is_outside 1 1000 (integer_or_zero (codes "flow") movement)
+has_bad_number shares per MovementSection movement =
+    is_outside 1 shares (integer_or_zero (codes "share") movement) || is_outside 1 1000 (integer_or_zero (codes "flow") movement)
+    || is_outside 0 1000000 (integer_or_zero (codes "start") movement)
 has_bad_number shares per JunctionSection junction = outside 1 16 (length (items_at (codes "stages") junction))
 
 -- This is the first table with a number out of its range.
@@ -149,7 +141,7 @@ unless net (Some refusal) = Err refusal
 abbrev pub tree_meaning : Data → Result Network (NetRule × Spot)
 tree_meaning tree = unless (network_from tree) (first_broken (tree_rules tree))
 
--- A rule on the whole text is told at the top.
+-- A rule on the whole text is reported at the top.
 abbrev pub at_top : NetRule → Result Network (NetRule × Spot)
 at_top name = Err (name, record { section = Top; number = 0 })
 

@@ -1,7 +1,9 @@
 -- The tree that a network is printed as; each table's keys ascend.
-use Rattle.std.specs.Prelude.{ℕ, pos, List, map, Option, Some, None, codes}
+use Rattle.std.specs.Prelude.{ℕ, zero, suc, pos, nat_lt, Bool, if◌then◌else◌, List, map, Option, Some, None, codes}
+use Rattle.std.specs.List.{list_any}
 use Rattle.toml.specs.Data.{Data, string, integer, array, table, Members, no_members, member}
 use Rattle.toml.specs.View.{items_of}
+use Rattle.mp_tree.specs.Put.{with_member}
 use Rattle.mp_model.specs.Network.{Link, Movement, Junction, Network, link_at, movement_at}
 
 -- This is a number as a value.
@@ -17,11 +19,16 @@ abbrev pub target_name : Network → Option ℕ → List ℕ
 target_name net None = codes "out"
 target_name net (Some l) = (link_at net l).name
 
+-- These are some members with a start queue above 0 at its key.
+abbrev pub with_start : ℕ → Members → Members
+with_start zero members = members
+with_start (suc n) members = with_member (codes "start") (number (suc n)) members
+
 -- This is the table of a movement.
 abbrev pub movement_tree : Network → Movement → Data
 movement_tree net movement =
-    table (member (codes "flow") (number movement.flow) (member (codes "from") (string (link_at net movement.from).name) (member (codes "name") (string movement.name)
-    (member (codes "share") (number movement.share) (member (codes "to") (string (target_name net movement.to)) no_members)))))
+    table (with_start movement.start (member (codes "flow") (number movement.flow) (member (codes "from") (string (link_at net movement.from).name) (member (codes "name") (string movement.name)
+    (member (codes "share") (number movement.share) (member (codes "to") (string (target_name net movement.to)) no_members))))))
 
 -- This is a stage as an array of names.
 abbrev pub stage_tree : Network → List ℕ → Data
@@ -32,10 +39,18 @@ abbrev pub junction_tree : Network → Junction → Data
 junction_tree net junction =
     table (member (codes "name") (string junction.name) (member (codes "stages") (array (items_of (map (stage_tree net) junction.stages))) no_members))
 
+-- Some movement has a start queue.
+abbrev pub has_start_queue : Network → Bool
+has_start_queue net = list_any (λ movement. nat_lt 0 movement.start) net.movements
+
+-- This is the first version whose files can say the start queues of a network.
+abbrev pub version_for : Network → ℕ
+version_for net = if has_start_queue net then 2 else 1
+
 -- This is the table of a network.
 abbrev pub network_tree : Network → Members
 network_tree net =
     member (codes "junction") (array (items_of (map (junction_tree net) net.junctions)))
     (member (codes "link") (array (items_of (map link_tree net.links)))
     (member (codes "movement") (array (items_of (map (movement_tree net) net.movements)))
-    (member (codes "per") (number net.per) (member (codes "shares") (number net.shares) (member (codes "version") (number 1) no_members)))))
+    (member (codes "per") (number net.per) (member (codes "shares") (number net.shares) (member (codes "version") (number (version_for net)) no_members)))))

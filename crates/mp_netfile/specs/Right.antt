@@ -1,11 +1,12 @@
 -- Trees that break no rule on keys, types, version, numbers and names.
-use Rattle.std.specs.Prelude.{◌≡◌, ◌≤◌, ◌<◌, ◌^◌, ℕ, true, length, codes, Option, None}
+use Rattle.std.specs.Prelude.{◌≡◌, ◌≤◌, ◌<◌, ◌^◌, true, length, codes, None}
 use Rattle.std.specs.List.{AllByRecursion}
 use Rattle.toml.specs.Data.{Data}
 use Rattle.mp_model.specs.Names.{is_name}
 use Rattle.mp_tree.specs.Tree.{section}
 use Rattle.mp_netfile.specs.Keys.{unknown_key, missing_key}
-use Rattle.mp_netfile.specs.Meaning.{bad_version, bad_number_in, bad_name_in, number_at, name_at}
+use Rattle.mp_netfile.specs.Values.{number_at}
+use Rattle.mp_netfile.specs.Meaning.{bad_version, bad_number_in, bad_name_in, name_at}
 
 -- A tree is right where none of its tables breaks a rule of its own.
 pub record IsRight (tree : Data) : Type 0 where
@@ -30,6 +31,7 @@ pub record IsMovementTable (row : Data) : Type 0 where
   pub name : HasName row
   pub share : number_at (codes "share") row < 2 ^ 32
   pub flow : number_at (codes "flow") row < 2 ^ 32
+  pub start : number_at (codes "start") row < 2 ^ 32
 
 -- The parts of a tree can be read where its numbers have 32 bits, its tables have names, and there are not too many links and movements for their numbers.
 pub record HasParts (tree : Data) : Type 0 where

@@ -9,7 +9,7 @@ use Rattle.mp_netfile.specs.Meaning.{has_bad_number, has_bad_name}
 
 -- A table breaks a rule.
 abbrev pub breaks : TableRule → Section → Data → Bool
-breaks ListedKeys kind row = has_unlisted_key kind row
+breaks (ListedKeys version) kind row = has_unlisted_key version kind row
 breaks NeededKeys kind row = lacks_key kind row
 breaks (Numbers shares per) kind row = has_bad_number shares per kind row
 breaks Names kind row = has_bad_name kind row

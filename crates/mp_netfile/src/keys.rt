@@ -2,15 +2,23 @@
 ghost use Rattle.std.specs.Prelude.{◌≡◌, map, option_map};
 ghost use Rattle.std.specs.List.{list_all};
 ghost use Rattle.toml.specs.View.{view};
+ghost use Rattle.mp_netfile.specs.Values.{has_starts};
 ghost use Rattle.mp_netfile.specs.Keys.{has_unlisted_key, lacks_text, lacks_integer, is_no_integer, lacks_tables, is_array_of_texts, is_no_stages, lacks_key};
 
 use mp_net::Section;
 use mp_tree::{are_texts, has_unknown_key, integer_at, is_array_of_tables, items, text_at};
 use toml::Value;
 
-/// Whether a table of the section has a key that is not listed for it.
-pub fn has_unlisted_key(section: Section, table: &Value) -> bool
-    ensures { result ≡ has_unlisted_key section (view table.now) }
+/// Whether the files of the version list start queues.
+fn has_starts(version: u64) -> bool
+    ensures { result ≡ has_starts version }
+{
+    version == 2
+}
+
+/// Whether a table of the section has a key that the files of the version don't list for it.
+pub fn has_unlisted_key(version: u64, section: Section, table: &Value) -> bool
+    ensures { result ≡ has_unlisted_key version section (view table.now) }
 {
     match section {
         Section::Top => has_unknown_key(
@@ -18,7 +26,13 @@ pub fn has_unlisted_key(section: Section, table: &Value) -> bool
             table,
         ),
         Section::Link => has_unknown_key(&["name", "burst", "rate"], table),
-        Section::Movement => has_unknown_key(&["name", "from", "to", "share", "flow"], table),
+        Section::Movement => {
+            if has_starts(version) {
+                has_unknown_key(&["name", "from", "to", "share", "flow", "start"], table)
+            } else {
+                has_unknown_key(&["name", "from", "to", "share", "flow"], table)
+            }
+        }
         Section::Junction => has_unknown_key(&["name", "stages"], table),
     }
 }
@@ -72,6 +86,7 @@ pub fn lacks_key(section: Section, table: &Value) -> bool
                 || lacks_text("to", table)
                 || lacks_integer("share", table)
                 || lacks_integer("flow", table)
+                || is_no_integer(table.get("start"))
         }
         Section::Junction => lacks_text("name", table) || is_no_stages(table.get("stages")),
     }

@@ -104,6 +104,7 @@ fn movement_part(links: &[LinkPart], table: &Value) -> MovementPart
         to: target(links, name_at(table, "to")),
         share: number_at(table, "share"),
         flow: number_at(table, "flow"),
+        start: number_at(table, "start"),
     }
 }
 
@@ -195,6 +196,7 @@ pub fn net_parts(alloc: Global, tree: &Value) -> Result<NetParts, NoMemory>
     Ok(NetParts {
         shares: number_at(tree, "shares"),
         per: number_at(tree, "per"),
+        delay: 0,
         links,
         movements,
         junctions,

@@ -1,13 +1,13 @@
 //! A network as the text of a file.
-ghost use Rattle.std.specs.Prelude.{◌≡◌, ◌≤◌, ℕ, Ok, Some, map, length, codes, IfOk, string_bytes};
+ghost use Rattle.std.specs.Prelude.{◌≡◌, ◌≤◌, ℕ, Ok, Some, map, length, codes, IfOk, OnOk, string_bytes};
 ghost use Rattle.std.specs.List.{AllByRecursion};
 ghost use Rattle.toml.specs.Data.{string, array, table as toml_table};
 ghost use Rattle.toml.specs.View.{view, table_view, items_of};
 ghost use Rattle.mp_model.specs.Network.{link_at, movement_at, junction_at};
 ghost use Rattle.mp_model.specs.NetworkRules.{IsAcceptable};
 ghost use Rattle.mp_net.specs.Parts.{link_of};
-ghost use Rattle.mp_netfile.specs.Meaning.{text_meaning, tree_meaning};
-ghost use Rattle.mp_netfile.specs.Printed.{link_tree, target_name, movement_tree, stage_tree, junction_tree, network_tree};
+ghost use Rattle.mp_netfile.specs.Meaning.{text_meaning, tree_meaning, tree_of};
+ghost use Rattle.mp_netfile.specs.Printed.{link_tree, target_name, movement_tree, stage_tree, junction_tree, network_tree, with_start, has_start_queue, version_for};
 ghost use Rattle.mp_netfile.specs.Numbered.{IsMovement, IsJunction, IsTarget, IsBetweenLinks};
 
 use mp_net::{JunctionNo, LinkNo, LinkPart, MovementNo, Name, Net, NoMemory};
@@ -56,6 +56,16 @@ fn target_name(alloc: Global, net: &Net, to: Option<LinkNo>) -> Result<Value, No
     }
 }
 
+/// Puts a start queue above 0.
+fn put_start(alloc: Global, table: &mut Table, start: u32) -> Result<(), NoMemory>
+    ensures { OnOk result (table_view table.new ≡ with_start start (table_view table.old)) }
+{
+    if start > 0 {
+        put(alloc, table, "start", Value::from(start))?;
+    }
+    Ok(())
+}
+
 fn movement_table(alloc: Global, net: &Net, k: MovementNo) -> Result<Value, NoMemory>
     requires there { IsMovement net.now k }
     requires ends { IsBetweenLinks net.now k }
@@ -75,6 +85,7 @@ fn movement_table(alloc: Global, net: &Net, k: MovementNo) -> Result<Value, NoMe
     put(alloc, &mut table, "to", to)?;
     put(alloc, &mut table, "share", Value::from(movement.share))?;
     put(alloc, &mut table, "flow", Value::from(movement.flow))?;
+    put_start(alloc, &mut table, movement.start)?;
     Ok(Value::Table(table))
 }
 
@@ -142,16 +153,35 @@ fn junction_tables(alloc: Global, net: &Net) -> Result<Value, NoMemory>
     Ok(Value::Array(tables))
 }
 
+#[tactic(auto, using(crate::proofs::Starts::starts_from))]
+fn has_start_queue(net: &Net) -> bool
+    ensures { result ≡ has_start_queue net.now }
+{
+    let end = net.movements() + 1;
+    for k in 1..end {
+        if net.movement(k).start > 0 {
+            return true;
+        }
+    }
+    false
+}
+
+fn version_for(net: &Net) -> u32
+    ensures { result ≡ version_for net.now }
+{
+    if has_start_queue(net) { 2 } else { 1 }
+}
+
 fn network_table(alloc: Global, net: &Net) -> Result<Table, NoMemory>
     ensures tree { IfOk result (λ table. table_view table ≡ network_tree net.now) }
-    ensures means { IfOk result (λ table. tree_meaning (toml_table (network_tree net.now)) ≡ Ok net.now) }
+    ensures means { IfOk result (λ table. net.now.delay ≡ 0 → tree_meaning (toml_table (network_tree net.now)) ≡ Ok net.now) }
 {
     let shares = net.shares();
     let links = link_tables(alloc, net)?;
     let movements = movement_tables(alloc, net)?;
     let junctions = junction_tables(alloc, net)?;
     let mut table = Table::new(alloc);
-    put(alloc, &mut table, "version", Value::from(1i64))?;
+    put(alloc, &mut table, "version", Value::from(version_for(net)))?;
     put(alloc, &mut table, "shares", Value::from(shares))?;
     put(alloc, &mut table, "per", Value::from(net.per()))?;
     put(alloc, &mut table, "link", links)?;
@@ -160,10 +190,14 @@ fn network_table(alloc: Global, net: &Net) -> Result<Table, NoMemory>
     Ok(table)
 }
 
-/// The text of a file for the network: read again, whatever its length, it gives an equal network.
-/// The order of its keys is that of the crate `toml`. `NoMemory` where memory could not be had.
+/// The text of a file for the network, of version 2 where some movement has a start queue, and else of
+/// version 1. The order of its keys is that of the crate `toml`.
+///
+/// Where the delay of the network is 0, the text read again, whatever its length, gives an equal network.
+/// No version names another delay yet, so the text leaves it out. `NoMemory` where memory could not be had.
 pub fn print_net(alloc: Global, net: &Net) -> Result<String, NoMemory>
-    ensures { IfOk result (λ text. text_meaning (string_bytes text) ≡ Ok net.now) }
+    ensures tree { IfOk result (λ text. tree_of (string_bytes text) ≡ Some (network_tree net.now)) }
+    ensures means { IfOk result (λ text. net.now.delay ≡ 0 → text_meaning (string_bytes text) ≡ Ok net.now) }
 {
     let table = network_table(alloc, net)?;
     match toml::table_to_string(alloc, &table) {

@@ -1,9 +1,11 @@
 //! A network from the bytes of a file.
-ghost use Rattle.std.specs.Prelude.{◌≡◌, ◌==◌, None, Ok, OnOk, IfOk, IfErr, codes};
+ghost use Rattle.std.specs.Prelude.{◌≡◌, None, Ok, OnOk, IfOk, IfErr};
 ghost use Rattle.toml.specs.View.{view};
 ghost use Rattle.mp_net.specs.Spots.{first_broken, or_later};
 ghost use Rattle.mp_net.specs.Refused.{IsFirst};
-ghost use Rattle.mp_netfile.specs.Meaning.{file_meaning, tree_meaning, tree_rules, number_at, bad_version, bad_number_in, network_from};
+ghost use Rattle.mp_netfile.specs.Values.{version_of, is_version};
+ghost use Rattle.mp_netfile.specs.Keys.{unknown_key};
+ghost use Rattle.mp_netfile.specs.Meaning.{file_meaning, tree_meaning, tree_rules, bad_version, bad_number_in, network_from};
 ghost use Rattle.mp_netfile.specs.Right.{IsRight};
 ghost use Rattle.mp_netfile.specs.Faults.{IsFaultOf, HasFewTables};
 
@@ -55,20 +57,40 @@ fn read_tree(alloc: Global, bytes: &[u8]) -> Result<Value, NetFault>
     }
 }
 
-fn is_version_one(tree: &Value) -> bool
-    ensures { result ≡ (number_at (codes "version") (view tree.now) == 1) }
+/// The version that a tree names, and 0 where that is no number from 0 on.
+fn version_of(tree: &Value) -> u64
+    ensures { result ≡ version_of (view tree.now) }
 {
-    integer_at(tree, "version") == Some(1)
+    match integer_at(tree, "version") {
+        Some(version) if version >= 0 => version as u64,
+        _ => 0,
+    }
+}
+
+/// The version first: which keys are listed rests on it.
+fn unknown_key(tree: &Value) -> Option<Spot>
+    requires { HasFewTables (view tree.now) }
+    ensures { result ≡ unknown_key (view tree.now) }
+{
+    let rule = TableRule::ListedKeys {
+        version: version_of(tree),
+    };
+    first_table(rule, tree)
+}
+
+fn is_version(version: u64) -> bool
+    ensures { result ≡ is_version version }
+{
+    version == 1 || version == 2
 }
 
 fn bad_version(tree: &Value) -> Option<Spot>
     ensures { result ≡ bad_version (view tree.now) }
 {
-    first_spot(!is_version_one(tree), None, None, None)
+    first_spot(!is_version(version_of(tree)), None, None, None)
 }
 
 /// The top table's numbers first: the ranges of the others rest on them.
-
 fn bad_number(tree: &Value) -> Option<Spot>
     requires { HasFewTables (view tree.now) }
     ensures { result ≡ bad_number_in (view tree.now) }
@@ -99,10 +121,7 @@ fn check_tree(tree: &Value) -> Result<(), NetFault>
     ensures ok { OnOk result (IsRight (view tree.now)) }
     ensures err { IfErr result (IsFirst (first_broken (tree_rules (view tree.now)))) }
 {
-    refuse(
-        NetRule::UnknownKey,
-        first_table(TableRule::ListedKeys, tree),
-    )?;
+    refuse(NetRule::UnknownKey, unknown_key(tree))?;
     refuse(
         NetRule::MissingKey,
         first_table(TableRule::NeededKeys, tree),
@@ -115,9 +134,10 @@ fn check_tree(tree: &Value) -> Result<(), NetFault>
 /// The network of a file, or the first rule that its bytes break, with the first spot where they do.
 ///
 /// The rules are tried in the order of [`NetRule`], each over the whole file before the next.
-/// `NetFault::NoMemory` says nothing of the file.
+/// `NetFault::NoMemory` says nothing of the file. No version names a delay, so that of the network is 0.
 pub fn read_net(alloc: Global, bytes: &[u8]) -> Result<Net, NetFault>
     ensures ok { IfOk result (λ net. file_meaning bytes.now ≡ Ok net) }
+    ensures prompt { IfOk result (λ net. net.delay ≡ 0) }
     ensures refused { IfErr result (IsFaultOf (file_meaning bytes.now)) }
 {
     let tree = read_tree(alloc, bytes)?;

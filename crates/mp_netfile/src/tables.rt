@@ -15,8 +15,8 @@ use toml::Value;
 /// A rule that each table is tried for on its own.
 #[derive(Clone, Copy)]
 pub enum TableRule {
-    /// Each key is listed.
-    ListedKeys,
+    /// Each key is listed in files of the version.
+    ListedKeys { version: u64 },
     /// The keys that must be there are there, and each has its type.
     NeededKeys,
     /// Each number is in its range, under a share total and a rate length.
@@ -30,7 +30,7 @@ fn breaks(rule: TableRule, kind: Section, table: &Value) -> bool
     ensures { result ≡ breaks rule kind (view table.now) }
 {
     match rule {
-        TableRule::ListedKeys => has_unlisted_key(kind, table),
+        TableRule::ListedKeys { version } => has_unlisted_key(version, kind, table),
         TableRule::NeededKeys => lacks_key(kind, table),
         TableRule::Numbers { shares, per } => has_bad_number(shares, per, kind, table),
         TableRule::Names => has_bad_name(kind, table),

@@ -74,7 +74,7 @@ UnknownKey Link 1|name = "a" # a>name = "a"~colour = 1
 UnknownKey Junction 2|name = "k" # k>name = "k"~start = 1
 MissingKey Movement 1|flow = 2 # ac>
 MissingKey Junction 2|name = "k" # k>name = 7
-BadVersion Top 0|version = 1 # v>version = 2
+BadVersion Top 0|version = 1 # v>version = 3
 BadNumber Top 0|per = 4 # h>per = 0
 BadNumber Movement 5|flow = 4 # cb>flow = 1001
 BadName Movement 1|name = "ac" # ac>name = "a c"

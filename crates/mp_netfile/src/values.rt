@@ -5,7 +5,8 @@ ghost use Rattle.toml.specs.View.{view};
 ghost use Rattle.mp_model.specs.Names.{is_name};
 ghost use Rattle.mp_net.specs.NumberRules.{outside};
 ghost use Rattle.mp_tree.specs.Tree.{items, text_or_empty};
-ghost use Rattle.mp_netfile.specs.Meaning.{integer_or_zero, number_at, name_at, items_at, texts_of, is_outside, has_bad_number, has_bad_name};
+ghost use Rattle.mp_netfile.specs.Values.{integer_or_zero, number_at};
+ghost use Rattle.mp_netfile.specs.Meaning.{name_at, items_at, texts_of, is_outside, has_bad_number, has_bad_name};
 
 use mp_net::{Name, Section};
 use mp_tree::{integer_at, items, section, text_at};
@@ -93,6 +94,7 @@ pub fn has_bad_number(shares: u32, per: u32, kind: Section, table: &Value) -> bo
         Section::Movement => {
             is_outside(1, shares, integer_or_zero(table, "share"))
                 || is_outside(1, 1000, integer_or_zero(table, "flow"))
+                || is_outside(0, 1_000_000, integer_or_zero(table, "start"))
         }
         Section::Junction => outside(1, 16, items_at(table, "stages").len()),
     }

@@ -1,4 +1,3 @@
-use Rattle.std.proofs.Common.{◌≡◌, map}
 use Rattle.toml.specs.View.{view}
 use Rattle.mp_netfile.proofs.Joined.{parts_joined}
 use Rattle.mp_netfile.proofs.parts.net_parts.Goals as goal

@@ -1,16 +1,26 @@
 use Rattle.std.proofs.Common.{◌≡◌, Some, Err, true, false, ap, ◌∙◌, sym}
 use Rattle.std.proofs.lemmas.Bool.{false≢true}
 use Rattle.std.proofs.lemmas.Str.{IsUtf8-string_bytes}
+use Rattle.std.specs.Prelude.{string_bytes}
 use Rattle.toml.specs.Data.{members_have_valid_dates}
 use Rattle.toml.specs.View.{table_view}
+use Rattle.mp_netfile.specs.Meaning.{meaning_of, tree_of}
+use Rattle.mp_netfile.specs.Printed.{network_tree}
 use Rattle.mp_netfile.proofs.Depths.{members_depth-network_tree, dates-network_tree}
-use Rattle.mp_netfile.proofs.PrintedRules.{text_means}
+use Rattle.mp_netfile.proofs.PrintedRules.{tree_read}
 use Rattle.mp_netfile.proofs.print.print_net.Goals as goal
 
-pub returns-in-Ok : goal.returns-in-Ok
-returns-in-Ok c =
+pub returns-in-Ok-clause-tree : goal.returns-in-Ok-clause-tree
+returns-in-Ok-clause-tree c =
     let tree = c.in_ok-table.ensures.tree in
-    text_means c.args.net.now _ c.in_ok-table.ensures.means (IsUtf8-string_bytes c.in-Ok.text) (c.in-Ok.ensures.reads_back (rw tree (members_depth-network_tree c.args.net.now)) ∙ ap Some tree)
+    tree_read c.args.net.now _ (IsUtf8-string_bytes c.in-Ok.text) (c.in-Ok.ensures.reads_back (rw tree (members_depth-network_tree c.args.net.now)) ∙ ap Some tree)
+
+pub returns-in-Ok-clause-means : goal.returns-in-Ok-clause-means
+returns-in-Ok-clause-means c = λ prompt.
+    let tree = c.in_ok-table.ensures.tree in
+    let read : tree_of (string_bytes c.in-Ok.text) ≡ Some (network_tree c.args.net.now) =
+    tree_read c.args.net.now _ (IsUtf8-string_bytes c.in-Ok.text) (c.in-Ok.ensures.reads_back (rw tree (members_depth-network_tree c.args.net.now)) ∙ ap Some tree) in
+    ap meaning_of read ∙ c.in_ok-table.ensures.means prompt
 
 pub unreachable-requires : goal.unreachable-requires
 unreachable-requires c =

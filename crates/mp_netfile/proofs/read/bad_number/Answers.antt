@@ -1,4 +1,4 @@
-use Rattle.std.proofs.Common.{◌≡◌, ◌≤◌, sym, ◌∙◌, arith}
+use Rattle.std.proofs.Common.{sym, ◌∙◌, arith}
 use Rattle.toml.specs.View.{view}
 use Rattle.mp_netfile.proofs.Small.{per_in_range, bad_number-below}
 use Rattle.mp_netfile.proofs.read.bad_number.Goals as goal

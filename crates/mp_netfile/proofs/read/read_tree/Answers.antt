@@ -1,9 +1,6 @@
-use Rattle.std.proofs.Common.{◌≡◌, ap, sym, ◌∙◌, rules, arith}
-use Rattle.toml.specs.Data.{table}
+use Rattle.std.proofs.Common.{arith}
 use Rattle.toml.specs.View.{table_view}
 use Rattle.toml.proofs.Views.{view-Table}
-use Rattle.mp_netfile.specs.Faults.{IsFaultOf}
-use Rattle.mp_netfile.specs.Meaning.{tree_meaning}
 use Rattle.mp_netfile.proofs.Texts.{meaning-no_utf8, meaning-tree}
 use Rattle.mp_netfile.proofs.Joined.{few_tables}
 use Rattle.mp_netfile.proofs.read.read_tree.Goals as goal
