@@ -2,27 +2,26 @@
 #![tactic(auto)]
 
 use mp_cli::top;
-use mp_edge::{FileStore, StdSink, StdSource};
+use mp_edge::{FileStore, StdSink, StdSource, WordsFault, read_words};
 use std::process::ExitCode;
-use std::rt::Env;
-use std::{env, io};
 
-/// The status for want of memory.
+/// The status of bad words.
+const BAD_WORDS: u8 = 1;
+
+/// The status where memory ran out.
 const NO_MEMORY: u8 = 12;
 
-// The words after the program's name.
-fn words_of(rt: &(impl Env + AllocGlobal)) -> io::Result<Vec<String>> {
-    let mut words = Vec::new(rt.alloc());
-    for word in env::args(rt)?.skip(1) {
-        words.push(word)?;
-    }
-    Ok(words)
-}
-
 fn main(rt: HostRuntime) -> ExitCode {
-    let Ok(words) = words_of(&rt) else {
-        let _ = rt.eprintln("memory");
-        return ExitCode::from(NO_MEMORY);
+    let words = match read_words(&rt) {
+        Ok(words) => words,
+        Err(WordsFault::NotText) => {
+            let _ = rt.eprintln("words");
+            return ExitCode::from(BAD_WORDS);
+        }
+        Err(WordsFault::NoMemory) => {
+            let _ = rt.eprintln("memory");
+            return ExitCode::from(NO_MEMORY);
+        }
     };
     let mut store = FileStore::new(rt);
     let mut input = StdSource::new(rt.stdin());
