@@ -1,26 +1,12 @@
 -- The lines of a text, one at a time.
-use Rattle.std.proofs.Common.{◌≡◌, ◌≢◌, ◌<◌, ℕ, ◌+◌, ◌-◌, List, [], ◌∷◌, ◌++◌, length, take, drop, map, get_or, refl, sym, ◌∙◌, ap, Some, None, arith, suc}
+use Rattle.std.proofs.Common.{◌≡◌, ◌<◌, ℕ, ◌+◌, ◌-◌, List, [], ◌∷◌, ◌++◌, length, take, drop, map, sym, ◌∙◌, ap, Some, None, arith}
 use Rattle.std.specs.Prelude.{◌==◌}
 use Rattle.std.specs.List.{position}
 use Rattle.std.proofs.lemmas.List.{take_all, length-drop}
 use Rattle.std.proofs.Math.ListN.{drop_of_length-le}
 use Rattle.mp_model.specs.Stream.{raw_lines, lines_of, without_return}
 use Rattle.mp_text.proofs.Lines.{first_line, no_line_feed}
-use Rattle.mp_text.proofs.RawLines.{ended_line, last_line, no_return, return_dropped}
-
-pub without_none : (line : List ℕ) → length line ≡ 0 → line ≡ without_return line
-without_none [] none = refl
-without_none (b ∷ bs) none = absurd (omega arith)
-
-pub without_other : (line : List ℕ) → length line ≢ 0 → get_or line (length line - 1) 0 ≢ 13 → line ≡ without_return line
-without_other line some other =
-    let size : length line ≡ suc (length line - 1) = omega arith in
-    sym (take_all (length line) line (omega arith)) ∙ no_return line (length line - 1) size other
-
-pub without_one : (line : List ℕ) → length line ≢ 0 → get_or line (length line - 1) 0 ≡ 13 → take (length line - 1) line ≡ without_return line
-without_one line some last =
-    let size : length line ≡ suc (length line - 1) = omega arith in
-    return_dropped line (length line - 1) size last
+use Rattle.mp_text.proofs.RawLines.{ended_line, last_line}
 
 -- the first line ends at the first line feed
 pub fed_line : (text : List ℕ) (at : ℕ) → position (λ b. b == 10) text ≡ Some at → lines_of text ≡ without_return (take at text) ∷ lines_of (drop (at + 1) text)

@@ -19,7 +19,8 @@ use Rattle.mp_text.proofs.RawLines.{ended_line}
 use Rattle.mp_cert.specs.Texts.{line_with, mix_words, mix_numbers, mix_lines, cert_lines, cert_text, vector_lines, vector_text}
 use Rattle.mp_cert.specs.TextLaws.{IsNumber, IsWritable}
 use Rattle.mp_cert.specs.TextMeaning.{Form, onto, numbers_of, spaced_numbers, of_count, row_of, is_passed_over, made, row_before, rows_of, mix_forms, mix_of_row, cert_forms, cert_of_rows, cert_meaning, vector_forms, vector_meaning, row_at}
-use Rattle.mp_cert.proofs.DecimalLemmas.{big_written, written_digits, decimal_digits}
+use Rattle.mp_text.proofs.Decimals.{decimal_digits}
+use Rattle.mp_cert.proofs.DecimalLemmas.{big_written, written_digits}
 use Rattle.mp_cert.proofs.FieldLemmas.{behind_words, row_behind, of_count_same}
 
 abbrev written : List ℤ → List ℕ

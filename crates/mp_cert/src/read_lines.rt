@@ -1,36 +1,14 @@
 //! The lines of a certificate or a vector, one after another.
-ghost use Rattle.std.specs.Prelude.{◌≡◌, ◌==◌, ◌+◌, ◌<◌, ◌≤◌, ◌∷◌, [], ℕ, length, drop, take, Ok, Some, None, IfOk, OnOk, IfErr, IfSome, IfNone, false, IsSome};
-ghost use Rattle.std.specs.List.{position};
-ghost use Rattle.mp_model.specs.Stream.{lines_of, without_return};
+ghost use Rattle.std.specs.Prelude.{◌≡◌, ◌+◌, ◌<◌, ◌∷◌, [], length, Ok, IfOk, OnOk, IfErr, IfSome, IfNone};
+ghost use Rattle.mp_model.specs.Stream.{lines_of};
 ghost use Rattle.mp_cert.specs.TextMeaning.{is_passed_over};
 ghost use Rattle.mp_cert.specs.TextFaults.{IsFaultOf};
-ghost use Rattle.mp_cert.specs.TextReading.{rows_ahead, SameAhead, StandsFirst, NoneStands, ReadsRow, RefusesAhead, HasRoom};
+ghost use Rattle.mp_cert.specs.TextReading.{rows_ahead, StandsFirst, NoneStands, ReadsRow, RefusesAhead, HasRoom};
 
 use crate::TextFault;
 use crate::read_numbers::{drop_front, read_numbers};
+use mp_text::{line_feed, without_return};
 use std::alloc::Global;
-
-// The place of the first line feed.
-fn line_feed(bytes: &[u8]) -> Option<usize>
-    ensures { result ≡ position (λ b. b == 10) bytes.now }
-{
-    bytes.iter().position(|b| *b == b'\n')
-}
-
-// The line without a carriage return at its end.
-fn without_return(line: &[u8]) -> &[u8]
-    ensures { result.now ≡ without_return line.now }
-{
-    let len = line.len();
-    if len == 0 {
-        return line;
-    }
-    if line[len - 1] == b'\r' {
-        &line[..len - 1]
-    } else {
-        line
-    }
-}
 
 // An empty line and a comment are passed over.
 fn is_passed_over(line: &[u8]) -> bool

@@ -1,17 +1,12 @@
 -- Lines that were put, one after another.
 use Rattle.std.proofs.Common.{◌≡◌, ◌<◌, ◌≤◌, ℕ, ◌+◌, ◌-◌, List, [], ◌∷◌, ◌++◌, length, take, drop, get_or, Option, sym, ◌∙◌, ap, subst, arith}
-use Rattle.std.proofs.lemmas.List.{append_assoc, append-nil, take-append-drop, take_more, take_all}
+use Rattle.std.proofs.lemmas.List.{append-nil, take-append-drop, take_more, take_all}
 use Rattle.std.proofs.lemmas.List.FromFn.{length-map-range_with_len}
 use Rattle.std.proofs.lemmas.Grind.{flat_map-append}
 use Rattle.mp_model.specs.Network.{Network}
 use Rattle.mp_model.specs.Log.{text_of, bound_line, header_lines}
 use Rattle.mp_edge.specs.Outside.{Tells, IsPrefix, GainsPrefix}
-use Rattle.mp_edge.proofs.Told.{Tells-then, Tells-same}
-use Rattle.mp_edge.proofs.Gains.{GainsPrefix-longer, GainsPrefix-then}
-
--- these bytes were appended to what was held
-abbrev pub HasPut : Option (List ℕ) → Option (List ℕ) → List ℕ → Type 0
-HasPut old new bytes = Tells old new (λ was now. now ≡ was ++ bytes)
+use Rattle.mp_edge.proofs.Puts.{HasPut, put_none, put_more, put_fails}
 
 -- the text of a front, and one line more
 front_more : (lines : List (List ℕ)) (i k : ℕ) → k ≡ i + 1 → i < length lines → text_of (take (i + 1) lines) ≡ text_of (take i lines) ++ (get_or lines (k - 1) [] ++ 10 ∷ [])
@@ -30,23 +25,18 @@ front_begins lines i = (
 )
 
 pub lines_start : (held : Option (List ℕ)) (lines : List (List ℕ)) → HasPut held held (text_of (take 0 lines))
-lines_start held lines = Tells-same held (λ was now. now ≡ was ++ []) (λ was. sym (append-nil was))
+lines_start held lines = put_none held
 
 pub lines_more : (old mid new : Option (List ℕ)) (lines : List (List ℕ)) (i k : ℕ) → k ≡ i + 1 → i < length lines → HasPut old mid (text_of (take i lines)) → HasPut mid new (get_or lines (k - 1) [] ++ 10 ∷ [])
     → HasPut old new (text_of (take (i + 1) lines))
-lines_more old mid new lines i k is within so_far more =
-    let line : List ℕ = get_or lines (k - 1) [] ++ 10 ∷ [] in
-    Tells-then old mid new (λ was now. now ≡ was ++ text_of (take i lines)) (λ was now. now ≡ was ++ line) (λ was now. now ≡ was ++ text_of (take (i + 1) lines))
-    (λ was half now first second. second ∙ ap (λ bs. bs ++ line) first ∙ append_assoc was (text_of (take i lines)) line ∙ ap (λ bs. was ++ bs) (sym (front_more lines i k is within))) so_far more
+lines_more old mid new lines i k is within so_far more = put_more old mid new (text_of (take i lines)) (get_or lines (k - 1) [] ++ 10 ∷ []) (text_of (take (i + 1) lines)) so_far more (front_more lines i k is within)
 
 -- a failure within a line has put a prefix of the text
 pub lines_fail : (old mid new : Option (List ℕ)) (lines : List (List ℕ)) (i k : ℕ) → k ≡ i + 1 → i < length lines → HasPut old mid (text_of (take i lines))
     → Tells mid new (λ was now. GainsPrefix (get_or lines (k - 1) [] ++ 10 ∷ []) was now) → Tells old new (λ was now. GainsPrefix (text_of lines) was now)
 lines_fail old mid new lines i k is within so_far more =
     let line : List ℕ = get_or lines (k - 1) [] ++ 10 ∷ [] in
-    let front : IsPrefix (text_of (take i lines) ++ line) (text_of lines) = subst (λ (bs : List ℕ). IsPrefix bs (text_of lines)) (front_more lines i k is within) (front_begins lines (i + 1)) in
-    Tells-then old mid new (λ was now. now ≡ was ++ text_of (take i lines)) (λ was now. GainsPrefix line was now) (λ was now. GainsPrefix (text_of lines) was now)
-    (λ was half now first second. GainsPrefix-longer (text_of (take i lines) ++ line) (text_of lines) was now front (GainsPrefix-then (text_of (take i lines)) line was half now first second)) so_far more
+    put_fails old mid new (text_of (take i lines)) line (text_of lines) so_far more (subst (λ (bs : List ℕ). IsPrefix bs (text_of lines)) (front_more lines i k is within) (front_begins lines (i + 1)))
 
 pub lines_end : (old now : Option (List ℕ)) (lines : List (List ℕ)) (i : ℕ) → length lines ≤ i → HasPut old now (text_of (take i lines)) → HasPut old now (text_of lines)
 lines_end old now lines i past so_far = subst (λ (ls : List (List ℕ)). HasPut old now (text_of ls)) (take_all i lines past) so_far

@@ -17,5 +17,5 @@ abbrev pub denominator : Fraction → ℕ
 denominator slack = unsigned_abs slack.den
 
 -- These are whole numbers without their signs.
-abbrev pub unsigned : List ℤ → List ℕ
-unsigned zs = map unsigned_abs zs
+abbrev pub naturals : List ℤ → List ℕ
+naturals zs = map unsigned_abs zs

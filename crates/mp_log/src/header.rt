@@ -4,7 +4,7 @@ ghost use Rattle.mp_edge.specs.Outside.{Tells, Puts, HasCause};
 ghost use Rattle.mp_text.specs.Buffered.{MOST_BYTES};
 ghost use Rattle.mp_model.specs.Network.{entry, numbers_to, movement_at};
 ghost use Rattle.mp_model.specs.Log.{first_line, slack_line, bound_line, header_lines, text_of};
-ghost use Rattle.mp_log.specs.Heading.{header_line, excess, denominator, unsigned};
+ghost use Rattle.mp_log.specs.Heading.{header_line, excess, denominator, naturals};
 
 use crate::line::{push_number, push_text};
 use mp_edge::{Failed, Sink};
@@ -38,7 +38,7 @@ fn denominator_of(slack: &Frac) -> u128
 // The bound of movement k, from a list of one per movement.
 fn bound_of(bound: &[i128], k: MovementNo) -> u128
     requires { (1 ≤ k) × (k ≤ length bound.now) }
-    ensures { result ≡ entry (unsigned bound.now) k }
+    ensures { result ≡ entry (naturals bound.now) k }
 {
     bound[usize::from(k) - 1].unsigned_abs()
 }
@@ -70,7 +70,7 @@ fn push_bound(line: &mut LineSink, net: &Net, bound: &[i128], k: MovementNo)
     requires empty { line.old.held ≡ [] }
     requires known { (1 ≤ k) × (k ≤ length net.now.movements) }
     requires bounds { length bound.now ≡ length net.now.movements }
-    ensures held { line.new.held ≡ bound_line net.now (unsigned bound.now) k }
+    ensures held { line.new.held ≡ bound_line net.now (naturals bound.now) k }
     ensures len { length line.new.held ≤ 120 }
 {
     push_text(line, b"bound ");
@@ -88,7 +88,7 @@ pub fn push_header_line(line: &mut LineSink, net: &Net, slack: &Frac, bound: &[i
     requires empty { line.old.held ≡ [] }
     requires known { (1 ≤ i) × (i ≤ length net.now.movements + 2) }
     requires bounds { length bound.now ≡ length net.now.movements }
-    ensures held { line.new.held ≡ header_line net.now (excess slack.now) (denominator slack.now) (unsigned bound.now) i }
+    ensures held { line.new.held ≡ header_line net.now (excess slack.now) (denominator slack.now) (naturals bound.now) i }
     ensures len { length line.new.held ≤ 120 }
 {
     let _movements = net.movements();
@@ -112,7 +112,7 @@ pub fn put_header_line<K: Sink>(
 ) -> Result<(), Failed>
     requires known { (1 ≤ i) × (i ≤ length net.now.movements + 2) }
     requires bounds { length bound.now ≡ length net.now.movements }
-    ensures bytes { Tells (K.held out.old) (K.held out.new) (Puts result (header_line net.now (excess slack.now) (denominator slack.now) (unsigned bound.now) i ++ 10 ∷ [])) }
+    ensures bytes { Tells (K.held out.old) (K.held out.new) (Puts result (header_line net.now (excess slack.now) (denominator slack.now) (naturals bound.now) i ++ 10 ∷ [])) }
     ensures cause { HasCause (K.faults out.old) (K.faults out.new) result }
 {
     let mut line = LineSink::new();
@@ -130,7 +130,7 @@ pub fn put_header<K: Sink>(
     bound: &[i128],
 ) -> Result<(), Failed>
     requires bounds { length bound.now ≡ length net.now.movements }
-    ensures bytes { Tells (K.held out.old) (K.held out.new) (Puts result (text_of (header_lines net.now (excess slack.now) (denominator slack.now) (unsigned bound.now)))) }
+    ensures bytes { Tells (K.held out.old) (K.held out.new) (Puts result (text_of (header_lines net.now (excess slack.now) (denominator slack.now) (naturals bound.now)))) }
     ensures cause { HasCause (K.faults out.old) (K.faults out.new) result }
 {
     for i in 0..header_lines(net) {

@@ -12,7 +12,7 @@ use Rattle.mp_model.specs.Log.{lines_from, period_lines, end_line, run_lines, he
 use Rattle.mp_model.specs.Stream.{lines_of}
 use Rattle.mp_model.specs.WholeLog.{BeginsLog, DiffersAt}
 use Rattle.mp_text.specs.Cut.{Cut}
-use Rattle.mp_log.specs.Heading.{header_line, unsigned}
+use Rattle.mp_log.specs.Heading.{header_line}
 use Rattle.mp_press.specs.Queues.{naturals}
 use Rattle.mp_step.specs.Standing.{Standing, Stands}
 use Rattle.mp_step.specs.Taken.{HasTaken}
@@ -191,11 +191,11 @@ module _ (net : Network) (ok : IsAcceptable net) (E D : ℕ) (bounds : List ℕ)
   auditing_ends Read whole left mid left' cut cut' old new periods n p few same number moves told after = tt
 
 -- the header line that is wanted
-pub header_line_is : (net net' : Network) (E E' D D' : ℕ) (zs zs' : List ℤ) (i : ℕ) → net' ≡ net → E' ≡ E → D' ≡ D → zs' ≡ zs → header_line net' E' D' (unsigned zs') (i + 1) ≡ get_or (header_lines net E D (naturals zs)) i []
+pub header_line_is : (net net' : Network) (E E' D D' : ℕ) (zs zs' : List ℤ) (i : ℕ) → net' ≡ net → E' ≡ E → D' ≡ D → zs' ≡ zs → header_line net' E' D' (naturals zs') (i + 1) ≡ get_or (header_lines net E D (naturals zs)) i []
 header_line_is net net' E E' D D' zs zs' i n e d z =
     let place : (i + 1) - 1 ≡ i = omega arith in
-    ap (λ (m : Network). header_line m E' D' (unsigned zs') (i + 1)) n ∙ ap (λ x. header_line net x D' (unsigned zs') (i + 1)) e ∙ ap (λ x. header_line net E x (unsigned zs') (i + 1)) d
-    ∙ ap (λ (x : List ℤ). header_line net E D (unsigned x) (i + 1)) z ∙ ap (λ j. get_or (header_lines net E D (naturals zs)) j []) place
+    ap (λ (m : Network). header_line m E' D' (naturals zs') (i + 1)) n ∙ ap (λ x. header_line net x D' (naturals zs') (i + 1)) e ∙ ap (λ x. header_line net E x (naturals zs') (i + 1)) d
+    ∙ ap (λ (x : List ℤ). header_line net E D (naturals x) (i + 1)) z ∙ ap (λ j. get_or (header_lines net E D (naturals zs)) j []) place
 
 pub all_seen : (lines : List (List ℕ)) (i : ℕ) (whole left : Option (List ℕ)) (held : List ℕ) → length lines ≤ i → HasSeen (take i lines) whole left held → HasSeen lines whole left held
 all_seen lines i whole left held past seen = subst (λ ls. HasSeen ls whole left held) (take_all i lines past) seen

@@ -1,4 +1,5 @@
 pub mod CuttingLemmas
+pub mod Decimals
 pub mod Digits
 pub mod Filling
 pub mod Lines

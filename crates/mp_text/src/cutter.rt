@@ -36,7 +36,8 @@ enum Found {
     Failed,
 }
 
-fn line_feed(bytes: &[u8]) -> Option<usize>
+/// The place of the first line feed.
+pub fn line_feed(bytes: &[u8]) -> Option<usize>
     ensures { result ≡ position is_line_feed bytes.now }
 {
     bytes.iter().position(|b| *b == LINE_FEED)
@@ -52,6 +53,13 @@ fn trimmed(line: &[u8]) -> usize
         return 0;
     }
     if line[len - 1] == b'\r' { len - 1 } else { len }
+}
+
+/// The line without a carriage return at its end.
+pub fn without_return(line: &[u8]) -> &[u8]
+    ensures { result.now ≡ without_return line.now }
+{
+    &line[..trimmed(line)]
 }
 
 // Reads behind the first `have` bytes, and gives how many there are then.

@@ -9,6 +9,6 @@ mod put;
 
 pub use bigs::read_big;
 pub use counts::read_count;
-pub use cutter::{LineCutter, LineStep};
+pub use cutter::{LineCutter, LineStep, line_feed, without_return};
 pub use line_sink::LineSink;
 pub use put::{put_number, put_text};

@@ -2,7 +2,7 @@ use Rattle.std.proofs.Common.{◌≤◌, take, map}
 use Rattle.mp_model.specs.Log.{text_of}
 use Rattle.mp_cert.specs.Texts.{mix_lines}
 use Rattle.mp_cert.specs.Views.{mix_of}
-use Rattle.mp_cert.proofs.PutLemmas.{HasPut}
+use Rattle.mp_edge.proofs.Puts.{HasPut}
 use Rattle.mp_cert.proofs.print.put_mixes.Given as goal
 
 abbrev pub invariant-loop-index : goal.invariant-loop-index

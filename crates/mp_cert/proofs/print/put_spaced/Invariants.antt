@@ -1,7 +1,7 @@
 use Rattle.std.proofs.Common.{◌∷◌, ◌≤◌, take}
 use Rattle.std.specs.Fmt.{signed_decimal}
 use Rattle.std.specs.List.{flat_map}
-use Rattle.mp_cert.proofs.PutLemmas.{HasPut}
+use Rattle.mp_edge.proofs.Puts.{HasPut}
 use Rattle.mp_cert.proofs.print.put_spaced.Given as goal
 
 abbrev pub invariant-loop-number : goal.invariant-loop-number

@@ -1,7 +1,7 @@
 use Rattle.std.proofs.Common.{◌+◌, ◌∙◌, refl, arith, rules}
 use Rattle.std.proofs.lemmas.Result.{err_from_is_err_and}
 use Rattle.mp_model.specs.Log.{header_lines}
-use Rattle.mp_log.specs.Heading.{excess, denominator, unsigned}
+use Rattle.mp_log.specs.Heading.{excess, denominator, naturals}
 use Rattle.mp_log.proofs.PutLemmas.{lines_start, lines_more, lines_fail, lines_end, header_size}
 use Rattle.mp_log.proofs.header.put_header.Goals as goal
 
@@ -9,7 +9,7 @@ pub loop-i-init : goal.loop-i-init
 loop-i-init g c =
     let E = excess c.args.slack.now in
     let D = denominator c.args.slack.now in
-    let bounds = unsigned c.args.bound.now in
+    let bounds = naturals c.args.bound.now in
     record {
       put = lines_start (g.K.Sink.held c.args.out.now) (header_lines c.args.net.now E D bounds);
       later = search rules;
@@ -22,7 +22,7 @@ returns-in_err-put_header_line-clause-bytes g c =
     let held = g.K.Sink.held in
     let E = excess c.args.slack.now in
     let D = denominator c.args.slack.now in
-    let bounds = unsigned c.args.bound.now in
+    let bounds = naturals c.args.bound.now in
     rw p.1 (lines_fail (held c.args.out.now) (held c.loop-i.out) (held c.put_header_line.new.out) (header_lines c.args.net.now E D bounds) c.loop-i.i (c.loop-i.i + 1) refl
     (omega (arith, c.loop-i-test.true, c.loop-i.invariant.size, header_size c.args.net.now E D bounds)) c.loop-i.invariant.put c.in_err-put_header_line.ensures.bytes)
 
@@ -31,7 +31,7 @@ loop-i-preserved g c =
     let held = g.K.Sink.held in
     let E = excess c.args.slack.now in
     let D = denominator c.args.slack.now in
-    let bounds = unsigned c.args.bound.now in
+    let bounds = naturals c.args.bound.now in
     record {
       put = lines_more (held c.args.out.now) (held c.loop-i.out) (held c.put_header_line.new.out) (header_lines c.args.net.now E D bounds) c.loop-i.i (c.loop-i.i + 1) refl
           (omega (arith, c.loop-i-test.true, c.loop-i.invariant.size, header_size c.args.net.now E D bounds)) c.loop-i.invariant.put c.in_ok-put_header_line.ensures.bytes;
@@ -43,6 +43,6 @@ pub returns-clause-bytes : goal.returns-clause-bytes
 returns-clause-bytes g c =
     let E = excess c.args.slack.now in
     let D = denominator c.args.slack.now in
-    let bounds = unsigned c.args.bound.now in
+    let bounds = naturals c.args.bound.now in
     lines_end (g.K.Sink.held c.args.out.now) (g.K.Sink.held c.loop-i.out) (header_lines c.args.net.now E D bounds) c.loop-i.i
     (omega (arith, c.loop-i-test.false, c.loop-i.invariant.size, header_size c.args.net.now E D bounds)) c.loop-i.invariant.put
