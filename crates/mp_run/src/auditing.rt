@@ -20,8 +20,8 @@ use mp_text::{LineCutter, LineSink, LineStep};
 /// The greatest number of periods of a log.
 const PERIOD_LIMIT: u64 = 1 << 48;
 
-/// The size of a buffer for lines of at most 16,384 bytes.
-const LINE_SIZE: usize = 16_385;
+/// The size of a buffer for lines of a log, of at most 16,384 bytes.
+const LOG_LINE_SIZE: usize = 16_385;
 
 /// How an audit ends. Lines are numbered from 1, and all lines count.
 #[derive(Clone, Copy, Debug, PartialEq, Eq)]
@@ -64,7 +64,7 @@ fn is_same(a: &[u8], b: &[u8]) -> bool
 // Takes the next line, and compares it with the wanted one.
 fn compare_next<In: Source>(
     input: &mut In,
-    cutter: &mut LineCutter<LINE_SIZE>,
+    cutter: &mut LineCutter<LOG_LINE_SIZE>,
     wanted: &[u8],
 ) -> Compared
     requires { length wanted.now < MOST_BYTES }
@@ -90,7 +90,7 @@ fn compare_next<In: Source>(
 fn audit_header<In: Source>(
     session: &Session,
     input: &mut In,
-    cutter: &mut LineCutter<LINE_SIZE>,
+    cutter: &mut LineCutter<LOG_LINE_SIZE>,
     wanted: &mut LineSink,
 ) -> Option<AuditEnd>
     requires { cutter.old.held ≡ [] }
@@ -189,7 +189,7 @@ fn take_logged(
 fn take_next<In: Source>(
     session: &mut Session,
     input: &mut In,
-    cutter: &mut LineCutter<LINE_SIZE>,
+    cutter: &mut LineCutter<LOG_LINE_SIZE>,
     arrivals: &mut ArrayVec<u64, 128>,
     wanted: &mut LineSink,
 ) -> Logged
@@ -211,7 +211,7 @@ fn take_next<In: Source>(
 // Ends the audit behind the end line of a log of this many periods, where the next line has this number.
 fn finish_audit<In: Source>(
     input: &mut In,
-    cutter: &mut LineCutter<LINE_SIZE>,
+    cutter: &mut LineCutter<LOG_LINE_SIZE>,
     periods: u64,
     line: u64,
 ) -> AuditEnd
@@ -231,7 +231,7 @@ fn finish_audit<In: Source>(
 fn audit_periods<In: Source>(
     session: &mut Session,
     input: &mut In,
-    cutter: &mut LineCutter<LINE_SIZE>,
+    cutter: &mut LineCutter<LOG_LINE_SIZE>,
     wanted: &mut LineSink,
 ) -> AuditEnd
     requires start { Stands session.old.net session.old.at (opening session.old.net) }
@@ -274,7 +274,7 @@ pub fn audit<In: Source>(session: &mut Session, input: &mut In) -> AuditEnd
     ensures in_later { In.faults input.old ≤ In.faults input.new }
     ensures read { result ≡ AuditEnd.Read → Rose (In.faults input.old) (In.faults input.new) }
 {
-    let mut cutter = LineCutter::<LINE_SIZE>::new();
+    let mut cutter = LineCutter::<LOG_LINE_SIZE>::new();
     let mut wanted = LineSink::new();
     if let Some(end) = audit_header(session, input, &mut cutter, &mut wanted) {
         return end;

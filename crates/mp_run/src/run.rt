@@ -21,6 +21,9 @@ use mp_text::{LineCutter, LineSink, LineStep};
 /// The greatest number of lines of a stream.
 const LINE_LIMIT: u64 = 1 << 48;
 
+/// The size of a buffer for lines of a stream, of at most 2,048 bytes.
+const STREAM_LINE_SIZE: usize = 2_049;
+
 /// How a run ends. Lines are numbered from 1, and all lines count.
 #[derive(Clone, Copy, Debug, PartialEq, Eq)]
 pub enum RunEnd {
@@ -151,7 +154,7 @@ pub fn run_stream<In: Source, Out: Sink>(
     ensures write { result ≡ RunEnd.Write → Rose (Out.faults out.old) (Out.faults out.new) }
 {
     let _ = session.state();
-    let mut cutter = LineCutter::<2049>::new();
+    let mut cutter = LineCutter::<STREAM_LINE_SIZE>::new();
     let mut arrivals = ArrayVec::new();
     let mut text = LineSink::new();
     for turn in 0..LINE_LIMIT {
