@@ -75,7 +75,7 @@ fn alone(alloc: Global, net: &Net, j: JunctionNo, k: MovementNo) -> Result<Numbe
     Ok(Numbers::new(numbers))
 }
 
-/// Whether the first slack is lower, or nothing where the comparison passes 128 bits.
+/// Whether the first slack is lower, or nothing where the comparison exceeds 128 bits.
 #[tactic(auto, unfolding(mp_verdict::specs::Game::is_lower))]
 fn is_lower(a: &Frac, b: &Frac) -> Option<bool>
     ensures { result ≡ is_lower a.now b.now }

@@ -96,7 +96,7 @@ fn decide(
 ///
 /// `Admitted` comes exactly where the greatest slack is above 0, `Critical` exactly where the network is critical, and
 /// `Overloaded` exactly where it is overloaded. `Overflow` and `PivotLimit` come first, exactly where the stated
-/// calculation passes 128 bits or comes to the limit of turns.
+/// calculation exceeds 128 bits or comes to the limit of turns.
 #[tactic(auto, using(crate::proofs::VerdictLemmas::admitting))]
 pub fn admit(alloc: Global, net: &Net) -> Result<Verdict, CalcFault>
     ensures calculation { Gives verdict_of result (verdict net.now (weighed net.now)) }

@@ -1,4 +1,4 @@
--- The check of a certificate: its rules in order, the first of which that fails or passes 128 bits is told.
+-- The check of a certificate: its rules in order, the first of which that fails or exceeds 128 bits is reported.
 use Rattle.std.specs.Prelude.{ℕ, Bool, true, false, List, [], ◌∷◌, ◌++◌, map, flat_map, Option, Some, None, Result, Ok, Err}
 use Rattle.mp_model.specs.Network.{Network, junction_at, movement_numbers, junction_numbers, stage_numbers}
 use Rattle.mp_model.specs.Certificate.{Cert}
@@ -15,13 +15,13 @@ abbrev pub rules_of : Network → List CertFault
 rules_of net =
     D ∷ E ∷ map H (movement_numbers net) ++ flat_map (mix_rules net) (junction_numbers net) ++ map Serve (movement_numbers net) ++ map Balance (movement_numbers net)
 
--- A rule that holds lets the check go on, one that fails is told itself, and one that passes 128 bits is told as an overflow.
+-- A rule that holds lets the check go on, one that fails is reported itself, and one that exceeds 128 bits is reported as an overflow.
 abbrev pub outcome_of : CertFault → Option Bool → Result (Unit {0}) CertFault
 outcome_of rule (Some true) = Ok tt
 outcome_of rule (Some false) = Err rule
 outcome_of rule None = Err Overflow
 
--- What comes later counts where nothing was told so far; a fault is passed on unchanged.
+-- What comes later counts where nothing was reported so far; a fault is passed on unchanged.
 abbrev pub after : Result (Unit {0}) CertFault → Result (Unit {0}) CertFault → Result (Unit {0}) CertFault
 after (Ok done) later = later
 after (Err fault) later = Err fault

@@ -20,15 +20,15 @@ Keeps net cert (Serve k) = ServeRule net cert k
 Keeps net cert (Balance k) = BalanceRule net cert k
 Keeps net cert Overflow = Unit {0}
 
--- A calculation of a rule passes 128 bits.
+-- A calculation of a rule exceeds 128 bits.
 abbrev pub Passes : Network → Cert → CertFault → Type 0
 Passes net cert rule = holds net cert rule ≡ None
 
--- A rule is told as a fault: as itself where the certificate breaks it, and as an overflow where a calculation of it passes 128 bits.
+-- A rule is reported as a fault: as itself where the certificate breaks it, and as an overflow where a calculation of it exceeds 128 bits.
 abbrev pub IsToldAs : Network → Cert → CertFault → CertFault → Type 0
 IsToldAs net cert rule fault = (¬ Keeps net cert rule × (fault ≡ rule)) ⊎ (Passes net cert rule × (fault ≡ Overflow))
 
--- A fault is told of a rule of the certificate, and each rule before it is kept.
+-- A fault is reported of a rule of the certificate, and each rule before it is kept.
 pub record IsFirstFault (net : Network) (cert : Cert) (fault : CertFault) : Type 0 where
   pub earlier : List CertFault
   pub rule : CertFault
@@ -37,6 +37,6 @@ pub record IsFirstFault (net : Network) (cert : Cert) (fault : CertFault) : Type
   pub kept : AllByRecursion (Keeps net cert) earlier
   pub told : IsToldAs net cert rule fault
 
--- No calculation of a rule passes 128 bits.
+-- No calculation of a rule exceeds 128 bits.
 abbrev pub IsFormed : Network → Cert → CertFault → Type 0
 IsFormed net cert rule = ¬ Passes net cert rule

@@ -51,7 +51,7 @@ need net cert k = plus (times (num (share_of net k)) (coming net cert k)) (times
 unfoldable pub balance_holds : Network → Cert → ℕ → Option Bool
 balance_holds net cert k = at_most (need net cert k) (times (num (net.shares * net.per)) (Some (rate_of cert k)))
 
--- A rule holds, fails, or passes 128 bits in one of its calculations. Overflow names no rule.
+-- A rule holds, fails, or exceeds 128 bits in one of its calculations. Overflow names no rule.
 abbrev pub holds : Network → Cert → CertFault → Option Bool
 holds net cert D = at_least (pos 1) cert.d
 holds net cert E = at_least (pos 1) cert.e

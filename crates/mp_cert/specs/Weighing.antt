@@ -59,7 +59,7 @@ served_formed net p = times (summed (junction_formed net p) (junction_numbers ne
 unfoldable pub weighed : Network → List ℤ → Option Weighed
 weighed net p = option_and_then (λ load. option_map (λ served. record { load = load; served = served }) (served_formed net p)) (load_formed net p)
 
--- A result is the sums where they are there, and an overflow where a calculation has passed 128 bits.
+-- A result is the sums where they are there, and an overflow where a calculation has exceeded 128 bits.
 abbrev pub WeighsTo : Result Weighed Overflow → Option Weighed → Type 0
 WeighsTo (Ok sums) calculation = calculation ≡ Some sums
 WeighsTo (Err overflow) calculation = calculation ≡ None

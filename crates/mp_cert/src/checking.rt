@@ -179,7 +179,7 @@ fn try_rules(net: &Net, cert: &Cert) -> Result<(), CertFault>
 /// Checks a certificate that has the network's lengths.
 ///
 /// The fault is the first rule that is broken, in the order in which `CertFault` lists them (the rules on a mix
-/// junction by junction), or an overflow where a calculation of a rule passes 128 bits before that.
+/// junction by junction), or an overflow where a calculation of a rule exceeds 128 bits before that.
 pub fn check(net: &Net, cert: &Cert) -> Result<(), CertFault>
     requires { HasLengths net.now (cert_of cert.now) }
     ensures outcome { result ≡ check_outcome net.now (cert_of cert.now) }

@@ -1,4 +1,4 @@
-//! The rules of a certificate: each compares two calculations, and has no answer where one of them passes 128 bits.
+//! The rules of a certificate: each compares two calculations, and has no answer where one of them exceeds 128 bits.
 ghost use Rattle.std.specs.Prelude.{◌≡◌, ◌≤◌, ◌*◌, pos, length, Some};
 ghost use Rattle.mp_model.specs.Network.{junction_at};
 ghost use Rattle.mp_model.specs.NetworkRules.{IsAcceptable};

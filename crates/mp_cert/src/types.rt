@@ -1,4 +1,4 @@
-//! Certificates, vectors against a network, and what is told of them.
+//! Certificates, vectors against a network, and what is reported of them.
 ghost use Rattle.std.specs.Prelude.{◌≡◌};
 
 use mp_net::{JunctionNo, MovementNo, StageNo};
@@ -80,11 +80,11 @@ pub struct Weighed {
     pub served: i128,
 }
 
-/// A calculation passes 128 bits.
+/// A calculation exceeds 128 bits.
 #[derive(Clone, Copy, PartialEq, Eq, Debug)]
 pub struct Overflow;
 
-/// Why a certificate is not accepted: the first rule that it breaks, or a calculation that passes 128 bits.
+/// Why a certificate is not accepted: the first rule that it breaks, or a calculation that exceeds 128 bits.
 #[derive(Clone, Copy, PartialEq, Eq, Debug)]
 pub enum CertFault {
     /// The denominator is below 1.
@@ -103,6 +103,6 @@ pub enum CertFault {
     Serve(MovementNo),
     /// The rate of this movement is below what comes to it and the excess.
     Balance(MovementNo),
-    /// A calculation passes 128 bits.
+    /// A calculation exceeds 128 bits.
     Overflow,
 }

@@ -240,7 +240,7 @@ fn sums(net: &Net, p: &[i128]) -> Option<Weighed>
 
 /// Weighs a vector with one number of at least 0 per movement: its load, and its capacity times the rate length.
 ///
-/// The overflow comes exactly where a calculation passes 128 bits.
+/// The overflow comes exactly where a calculation exceeds 128 bits.
 pub fn weigh(net: &Net, against: &Against) -> Result<Weighed, Overflow>
     requires lengths { length against.now.p ≡ length net.now.movements }
     requires signs { All (λ x. pos 0 ≤ℤ x) against.now.p }

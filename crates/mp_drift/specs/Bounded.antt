@@ -41,7 +41,7 @@ pub record HasNoRoom (net : Network) (E D : ℕ) : Type 0 where
   pub are : AreBounds net E D bounds
   pub no_room : ¬ HasRoom bounds
 
--- The stated calculation finds the greatest drift value where the bounds are given, and passes 128 bits where the fault says so; the other fault of the calculation is a bound without room.
+-- The stated calculation finds the greatest drift value where the bounds are given, and exceeds 128 bits where the fault says so; the other fault of the calculation is a bound without room.
 abbrev pub EndsAs : Network → ℕ → ℕ → Result QueueBounds CalcFault → Type 0
 EndsAs net E D (Ok found) = FindsGreatest net E D
 EndsAs net E D (Err (Overflow Bound)) = stated_greatest net E D ≡ None

@@ -4,7 +4,7 @@ ghost use Rattle.mp_drift.specs.Stated.{fitting};
 
 use mp_num::{add, mul};
 
-/// The product, or `None` exactly where it passes 128 signed bits.
+/// The product, or `None` exactly where it exceeds 128 signed bits.
 #[tactic(auto, using(crate::proofs::Fitting::some_fits, crate::proofs::Fitting::none_fits))]
 pub fn product(a: u128, b: u128) -> Option<u128>
     requires first { a < 2 ^ 127 }
@@ -18,7 +18,7 @@ pub fn product(a: u128, b: u128) -> Option<u128>
     }
 }
 
-/// The sum, or `None` exactly where it passes 128 signed bits.
+/// The sum, or `None` exactly where it exceeds 128 signed bits.
 #[tactic(auto, using(crate::proofs::Fitting::some_fits, crate::proofs::Fitting::none_fits))]
 pub fn sum(a: u128, b: u128) -> Option<u128>
     requires first { a < 2 ^ 127 }

@@ -36,9 +36,9 @@ fn bound_at(bounds: &[i128], k: MovementNo) -> i128
 /// Why a session can't be opened.
 #[derive(Clone, Copy, Debug, PartialEq, Eq)]
 pub enum OpenFault {
-    /// The certificate is not accepted: the first rule that it breaks, or a calculation that passes 128 bits.
+    /// The certificate is not accepted: the first rule that it breaks, or a calculation that exceeds 128 bits.
     Cert(CertFault),
-    /// A bound passes 128 bits, or has no room.
+    /// A bound exceeds 128 bits, or has no room.
     Calc(CalcFault),
     /// There was no memory.
     NoMemory,

@@ -34,7 +34,7 @@ kernel_at j d rows i =
 unfoldable pub kernel : ℕ → ℕ → ℤ → List (List ℤ) → Option (List ℤ)
 kernel n j d rows = each (kernel_at j d rows) (counting n 0)
 
--- The outcome of a system is an answer over its denominator, a kernel, or the column at which 128 bits are passed: 0 for reducing the rows, which passes nothing, the number of a column from 1, and one more than the last for the answers.
+-- The outcome of a system is an answer over its denominator, a kernel, or the column at which 128 bits are exceeded: 0 for reducing the rows, where nothing exceeds them, the number of a column from 1, and one more than the last for the answers.
 pub data Outcome : Type 0 where
   Answer : List ℤ → ℤ → Outcome
   Kernel : List ℤ → Outcome

@@ -28,12 +28,12 @@ flows_of p = record { rate = p.rate; unit = p.unit; d = p.d }
 abbrev pub worths_of : Flow → Worths
 worths_of f = record { x = f.x; d = f.d }
 
--- A result gives what a calculation states: the value, or its place where it passes 128 bits; or memory ran out.
+-- A result gives what a calculation states: the value, or its place where it exceeds 128 bits; or memory ran out.
 abbrev pub Gives : {X Y : Type 0} → Place → (X → Y) → Result X CalcFault → Option Y → Type 0
 Gives place seen (Ok x) stated = stated ≡ Some (seen x)
 Gives place seen (Err fault) stated = ((fault ≡ Calculating.Overflow place) × (stated ≡ None)) ⊎ (fault ≡ Calculating.NoMemory)
 
--- The outcome of a system is moved to a place: an answer stays, and a column where it passes 128 bits becomes the place.
+-- The outcome of a system is moved to a place: an answer stays, and a column where it exceeds 128 bits becomes the place.
 abbrev pub IsMoved : Place → Result Solved SolveFault → Result Solved CalcFault → Type 0
 IsMoved place (Ok s) moved = moved ≡ Ok s
 IsMoved place (Err (Solving.Singular kernel)) moved = ⊥
@@ -60,7 +60,7 @@ pub record IsAnswer (n rights : ℕ) (rows : List (List ℤ)) (s : Solved) : Typ
   pub values : length s.x ≡ rights * n
   pub answers : Answers n rights rows s.x s.d
 
--- A regular system is answered at a place: with its answer, or with the place where the calculation passes 128 bits; or memory ran out.
+-- A regular system is answered at a place: with its answer, or with the place where the calculation exceeds 128 bits; or memory ran out.
 abbrev pub AnsweredAt : Place → ℕ → ℕ → List (List ℤ) → Result Solved CalcFault → Type 0
 AnsweredAt place n rights rows (Ok s) = IsAnswer n rights rows s
 AnsweredAt place n rights rows (Err fault) = ((fault ≡ Calculating.Overflow place) × ((column : ℕ) × (solved n rights rows ≡ Passes column))) ⊎ (fault ≡ Calculating.NoMemory)

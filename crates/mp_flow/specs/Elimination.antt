@@ -1,4 +1,4 @@
--- Elimination without fractions as a stated calculation: one definition a step, each giving its rows or passing 128 bits.
+-- Elimination without fractions as a stated calculation: one definition a step, each giving its rows or exceeding 128 bits.
 use Rattle.std.specs.Prelude.{◌≡◌, ◌<◌, ◌*◌, ◌≤ℤ◌, ℕ, zero, suc, ◌+◌, ℤ, pos, ◌-ℤ◌, Bool, not, if◌then◌else◌, List, ◌∷◌, ◌++◌, [], get_or, take, drop, remove, position, All, Option, Some, None, option_map, option_and_then, int_lt}
 use Rattle.std.specs.Ordering.{int_eq}
 use Rattle.mp_num.specs.Checked.{within}
@@ -26,7 +26,7 @@ cleared j used pivot free =
 unfoldable pub turned : ℕ → List (List ℤ) → List ℤ → List (List ℤ) → Option (List (List ℤ))
 turned j used chosen free = option_and_then (λ pivot. cleared j used pivot free) (upright j chosen)
 
--- A column is stuck where no free row serves it; it passes 128 bits, or turns into the next rows.
+-- A column is stuck where no free row serves it; it exceeds 128 bits, or turns into the next rows.
 pub data Turn : Type 0 where
   Stuck : Turn
   Passed : Turn
@@ -46,7 +46,7 @@ chosen_turn j used free (Some k) = turn_of (turned j used (get_or free k []) (re
 unfoldable pub turn : ℕ → List (List ℤ) → Turn
 turn j rows = chosen_turn j (take j rows) (drop j rows) (position (serves j) (drop j rows))
 
--- An elimination is stuck at a column with the rows of then, passes 128 bits at a column, or goes through to its last rows.
+-- An elimination is stuck at a column with the rows of then, exceeds 128 bits at a column, or goes through to its last rows.
 pub data Elimination : Type 0 where
   StuckAt : ℕ → List (List ℤ) → Elimination
   PassedAt : ℕ → Elimination

@@ -44,13 +44,13 @@ pub record Flows : Type 0 where
   pub unit : List ℤ
   pub d : ℤ
 
--- These are the flows that the outcome of their system gives, with n links, and nothing where it has passed 128 bits.
+-- These are the flows that the outcome of their system gives, with n links, and nothing where it has exceeded 128 bits.
 abbrev pub flows_from : ℕ → Outcome → Option Flows
 flows_from n (Answer x d) = Some (record { rate = take n x; unit = drop n x; d = d })
 flows_from n (Kernel x) = None
 flows_from n (Passes column) = None
 
--- These are the flows by the stated calculation, and nothing where it passes 128 bits.
+-- These are the flows by the stated calculation, and nothing where it exceeds 128 bits.
 unfoldable pub stated_flows : Network → Option Flows
 stated_flows net = flows_from (length net.links) (solved (length net.links) 2 (flow_rows net))
 
@@ -59,13 +59,13 @@ pub record Worths : Type 0 where
   pub x : List ℤ
   pub d : ℤ
 
--- These are the worths that the outcome of their system gives, and nothing where it has passed 128 bits.
+-- These are the worths that the outcome of their system gives, and nothing where it has exceeded 128 bits.
 abbrev pub worths_from : Outcome → Option Worths
 worths_from (Answer x d) = Some (record { x = x; d = d })
 worths_from (Kernel x) = None
 worths_from (Passes column) = None
 
--- These are the worths by the stated calculation, and nothing where it passes 128 bits.
+-- These are the worths by the stated calculation, and nothing where it exceeds 128 bits.
 unfoldable pub stated_worths : Network → List ℤ → Option Worths
 stated_worths net u = worths_from (solved (length net.links) 1 (worth_rows net u))
 

@@ -32,7 +32,7 @@ enum Column {
     Cleared,
 }
 
-/// Negates each entry, or answers false where a negation passes 128 bits.
+/// Negates each entry, or answers false where a negation exceeds 128 bits.
 #[tactic(auto, using(mp_num::proofs::PassingLemmas::going), unfolding(crate::specs::Elimination::negated))]
 fn negate(row: &mut [i128]) -> bool
     ensures { Becomes result (negated row.old) row.new }

@@ -11,7 +11,7 @@ use mp_net::{JunctionNo, Net};
 use mp_num::Numbers;
 use std::alloc::Global;
 
-/// Where a calculation over a network passes 128 bits.
+/// Where a calculation over a network exceeds 128 bits.
 #[derive(Clone, Copy, PartialEq, Eq, Debug)]
 pub enum Place {
     /// The flows of the links.
@@ -35,7 +35,7 @@ pub enum Place {
 /// Why a calculation over a network has no result.
 #[derive(Clone, Copy, PartialEq, Eq, Debug)]
 pub enum CalcFault {
-    /// The calculation passes 128 bits at this place.
+    /// The calculation exceeds 128 bits at this place.
     Overflow(Place),
     /// The turns of the game end at this junction first.
     PivotLimit(JunctionNo),
@@ -125,7 +125,7 @@ fn worths(solved: Solved) -> Flow
 
 /// The flows of the links: what the rates bring to each, and what one unit of slack on every movement adds.
 ///
-/// `Overflow(Place::Flow)` comes exactly where the stated calculation passes 128 bits.
+/// `Overflow(Place::Flow)` comes exactly where the stated calculation exceeds 128 bits.
 #[tactic(auto, using(crate::proofs::CalculatingLemmas::calculating))]
 pub fn flows(alloc: Global, net: &Net) -> Result<FlowPair, CalcFault>
     ensures calculation { Gives Place.Flow flows_of result (stated_flows net.now) }
@@ -145,7 +145,7 @@ pub fn flows(alloc: Global, net: &Net) -> Result<FlowPair, CalcFault>
 /// What a vehicle on each link is worth: the mean, by shares, of what the links behind its movements are worth, and the link's number in `u` over the share total.
 /// `u` has one number of at least 0 per link, in link order.
 ///
-/// `Overflow(Place::Adjoint)` comes exactly where the stated calculation passes 128 bits.
+/// `Overflow(Place::Adjoint)` comes exactly where the stated calculation exceeds 128 bits.
 #[tactic(auto, using(crate::proofs::CalculatingLemmas::calculating))]
 pub fn adjoint(alloc: Global, net: &Net, u: &[i128]) -> Result<Flow, CalcFault>
     requires values { length u.now ≡ length net.now.links }

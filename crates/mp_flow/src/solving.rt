@@ -23,7 +23,7 @@ pub struct Solved {
 pub enum SolveFault {
     /// One number per column, not all 0, whose sum with each row is 0.
     Singular { kernel: Numbers },
-    /// The column, from 1, at which the calculation passes 128 bits; one more than the last where the reading of the answers does.
+    /// The column, from 1, at which the calculation exceeds 128 bits; one more than the last where the reading of the answers does.
     Overflow { column: usize },
     /// There was no memory for the answers.
     NoMemory,
@@ -206,7 +206,7 @@ pub struct Rows {
 /// Solves the system for each right side, by elimination without fractions (Bareiss 1968). Its cells are open afterwards.
 ///
 /// Each row is reduced, and then each column is cleared with the lowest row that is not used and not 0 there.
-/// `Singular` comes where no such row is left, `Overflow` exactly where this calculation passes 128 bits.
+/// `Singular` comes where no such row is left, `Overflow` exactly where this calculation exceeds 128 bits.
 #[tactic(auto, using(crate::proofs::SolveLemmas::meanings))]
 pub fn solve(alloc: Global, rows: &mut Rows) -> Result<Solved, SolveFault>
     requires some { 0 < rows.old.n }

@@ -1,4 +1,4 @@
--- The least common multiple as a calculation that may pass 128 bits.
+-- The least common multiple as a calculation that may exceed 128 bits.
 use Rattle.std.specs.Prelude.{ℤ, pos, ◌*ℤ◌, Option, unsigned_abs, int_div}
 use Rattle.mp_num.specs.Checked.{within}
 use Rattle.mp_num.specs.Divisor.{gcd_of}

@@ -1,4 +1,4 @@
-//! The arithmetic of rows that elimination and the simplex method share: every operation on them is exact, or passes 128 bits.
+//! The arithmetic of rows that elimination and the simplex method share: every operation on them is exact, or exceeds 128 bits.
 
 ghost use Rattle.std.specs.Prelude.{◌≡◌, ◌*◌, ◌<◌, ◌≤ℤ◌, pos, length, unsigned_abs, int_div};
 ghost use Rattle.mp_num.specs.Divisor.{gcd_of};
@@ -26,7 +26,7 @@ pub fn common_divisor(p: i128, a: i128) -> i128
     gcd(p.unsigned_abs(), a.unsigned_abs()) as i128
 }
 
-/// `p * x - a * y`, or nothing where a product or the difference passes 128 bits.
+/// `p * x - a * y`, or nothing where a product or the difference exceeds 128 bits.
 #[tactic(auto, unfolding(crate::specs::Row::combined_entry))]
 fn combine_entry(p: i128, a: i128, x: i128, y: i128) -> Option<i128>
     ensures { result ≡ combined_entry p a x y }

@@ -6,7 +6,7 @@ use mp_net::JunctionNo;
 pub enum ScaleFault {
     /// The trial of this excess ends neither way within 131,072 sweeps.
     Sweeps { e: u64 },
-    /// The program of this junction, or its comparison with the denominator, passes 128 bits.
+    /// The program of this junction, or its comparison with the denominator, exceeds 128 bits.
     Overflow(JunctionNo),
     /// The program of this junction comes to its limit of pivots.
     PivotLimit(JunctionNo),

@@ -1,6 +1,6 @@
 //! The greatest certificate of a network over a given denominator.
 //!
-//! Where the flows of a network pass 128 bits, its greatest slack is out of reach, but the certificates over one
+//! Where the flows of a network exceed 128 bits, its greatest slack is out of reach, but the certificates over one
 //! denominator are not: for an excess the least rates are found by sweeps, and whether the junctions serve them by a
 //! program each. The search halves the excesses between one that fits and one that doesn't.
 #![tactic(auto)]

@@ -34,7 +34,7 @@ fn row_of(alloc: Global, d: u64, e: u64, rates: &[u64]) -> Result<Vec<i128>, All
     Ok(row)
 }
 
-/// Whether the value of the program is above the denominator, or none exactly where their comparison passes 128 bits.
+/// Whether the value of the program is above the denominator, or none exactly where their comparison exceeds 128 bits.
 #[tactic(auto, using(crate::proofs::Serving::comparing), unfolding(mp_trial::specs::Trials::is_above_whole))]
 fn is_above_whole(d: u64, optimum: &Optimum) -> Option<bool>
     ensures { result ≡ is_above_whole d optimum.now }

@@ -67,7 +67,7 @@ fn bring(net: &Net, d: u64, rates: &[u64], brought: &mut [u64])
 }
 
 /// The share of a number with `e` times the unit beside, over the unit and rounded up. The number is divided first, so
-/// that nothing passes 64 bits.
+/// that nothing exceeds 64 bits.
 #[tactic(auto, using(crate::proofs::Rounding::split_round, crate::proofs::Rounding::product_few, crate::proofs::Rounding::quotient_few))]
 fn round_up(share: u64, came: u64, unit: u64, e: u64) -> u64
     requires share { (share ≤ 1000) × (share ≤ unit) }

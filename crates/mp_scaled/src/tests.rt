@@ -163,7 +163,7 @@ fn finds_certificates(rt: HostRuntime) -> Result<(), Fail> {
     Ok(())
 }
 
-// The flows of the ring pass 128 bits.
+// The flows of the ring exceed 128 bits.
 #[test]
 fn finds_one_of_a_ring(rt: HostRuntime) -> Result<(), Fail> {
     let alloc = rt.alloc();

@@ -97,7 +97,7 @@ unfoldable pub denominator_over : List ℤ → ℤ → ℤ
 denominator_over x q = entry (reduced (x ++ q ∷ [])) (length x)
 
 -- ---- the outcome
--- An outcome is an optimum, a ray, a passing of 128 bits after so many pivots, or the limit of pivots.
+-- An outcome is an optimum, a ray, an overflow after so many pivots, or the limit of pivots.
 pub data Outcome : Type 0 where
   Optimal : Optimum → Outcome
   Ray : List ℤ → Outcome
@@ -115,7 +115,7 @@ optimum_of done x q y o v = record {
   pivots = done;
 }
 
--- The best tableau gives the optimum where its primal passes nothing.
+-- The best tableau gives the optimum where nothing in its primal exceeds 128 bits.
 abbrev pub optimal : ℕ → ℕ → ℕ → List (List ℤ) → ℤ → Option (List ℤ) → Outcome
 optimal m n done rows q None = Passes done
 optimal m n done rows q (Some x) = Optimal (optimum_of done x q (dual m n rows) (entry (row_of rows 0) 0) (entry (row_of rows 0) (1 + n + m)))
@@ -125,7 +125,7 @@ abbrev pub best_outcome : ℕ → ℕ → ℕ → List (List ℤ) → List ℕ �
 best_outcome m n done rows basis None = Passes done
 best_outcome m n done rows basis (Some q) = optimal m n done rows q (primal n (1 + n + m) q rows basis)
 
--- The endless tableau gives its ray where that passes nothing.
+-- The endless tableau gives its ray where nothing in it exceeds 128 bits.
 abbrev pub unbounded : ℕ → Option (List ℤ) → Outcome
 unbounded done None = Passes done
 unbounded done (Some x) = Ray x

@@ -47,7 +47,7 @@ pub record SameShape (old new : Table) : Type 0 where
   pub columns : new.columns ≡ old.columns
   pub width : new.width ≡ old.width
 
--- A first table has the first rows of a program and its first basis; there is none where these pass 128 bits.
+-- A first table has the first rows of a program and its first basis; there is none where these exceed 128 bits.
 abbrev pub IsFirstTable : Lp → Option Table → Type 0
 IsFirstTable lp None = first_rows lp.rows lp.cols lp.a lp.b lp.c ≡ None
 IsFirstTable lp (Some t) =

@@ -58,7 +58,7 @@ pub struct Optimum {
 pub enum LpFault {
     /// The objective grows without end along `ray`, which has a number for each column.
     Unbounded { ray: Numbers },
-    /// A number passed 128 bits after so many pivots.
+    /// A number exceeded 128 bits after so many pivots.
     Overflow { pivots: u32 },
     /// One more pivot than the limit would be needed.
     PivotLimit,
@@ -96,7 +96,7 @@ pub fn maximise(alloc: Global, lp: &Lp, limit: u32) -> Result<Optimum, LpFault>
 }
 
 /// Whether both sides of an optimum are feasible and have its value, or `None` exactly where a number of the check
-/// passes 128 bits. The number of pivots is not looked at.
+/// exceeds 128 bits. The number of pivots is not looked at.
 pub fn check_optimum(lp: &Lp, optimum: &Optimum) -> Option<bool>
     requires sizes { HasSizes lp.now }
     requires sides { FitsProgram lp.now optimum.now }

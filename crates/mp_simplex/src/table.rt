@@ -35,7 +35,7 @@ impl Table {
     ghost use Rattle.mp_simplex.specs.Running.{rows_in, right_in, IsFirstTable};
     ghost use Rattle.mp_simplex.specs.Tableau.{row_of};
 
-    /// The first table of a program, or `None` where the negation of an objective passes 128 bits.
+    /// The first table of a program, or `None` where the negation of an objective exceeds 128 bits.
     pub fn first(alloc: Global, lp: &Lp) -> Result<Option<Table>, AllocError>
         requires { HasSizes lp.now }
         ensures { IfOk result (IsFirstTable lp.now) }
@@ -122,7 +122,7 @@ fn cell(lp: &Lp, r: usize, k: usize) -> Option<i128>
     Some(slack_cell(lp, r - 1, k))
 }
 
-/// Pushes row `r` of the first table, or answers `false` where it passes 128 bits.
+/// Pushes row `r` of the first table, or answers `false` where it exceeds 128 bits.
 #[tactic(auto, using(crate::proofs::TableLemmas::pushes))]
 fn push_row(lp: &Lp, r: usize, width: usize, cells: &mut Vec<i128>) -> Result<bool, AllocError>
     requires sizes { HasSizes lp.now }
@@ -141,7 +141,7 @@ fn push_row(lp: &Lp, r: usize, width: usize, cells: &mut Vec<i128>) -> Result<bo
     Ok(true)
 }
 
-/// The first table's numbers, row by row, or `None` where one passes 128 bits.
+/// The first table's numbers, row by row, or `None` where one exceeds 128 bits.
 #[tactic(auto, using(crate::proofs::TableLemmas::stacks))]
 fn first_cells(alloc: Global, lp: &Lp, width: usize) -> Result<Option<Vec<i128>>, AllocError>
     requires sizes { HasSizes lp.now }

@@ -331,7 +331,7 @@ fn finds_a_ray(rt: HostRuntime) -> Result<(), Fail> {
     Ok(())
 }
 
-/// How many pivots were done when a number passed 128 bits, if one did.
+/// How many pivots were done when a number exceeded 128 bits, if one did.
 fn passed_after(
     rt: &impl Abort,
     alloc: Global,
@@ -440,7 +440,7 @@ fn checks_both_sides(rt: HostRuntime) -> Result<(), Fail> {
         checks(&rt, alloc, [1, 1], 2, [4, 4], 1, Frac::new(7, 1))?,
         Some(false)
     );
-    // A sum passes 128 bits, though a side is not feasible.
+    // A sum exceeds 128 bits, though a side is not feasible.
     assert_eq!(rt;
         checks(&rt, alloc, [-1, 1], 2, [4, i128::MAX], 1, value)?,
         None

@@ -19,7 +19,7 @@ pub enum Choice {
     Best,
     /// The variable at this place may grow without end.
     Endless { place: usize },
-    /// The ratio test passes 128 bits.
+    /// The ratio test exceeds 128 bits.
     Passing,
     /// The variable at this place enters the basis in this row.
     Leaves { row: usize, place: usize },
@@ -112,7 +112,7 @@ impl Table {
         }
     }
 
-    /// Lets the variable at place `j` enter the basis in row `i`, or answers `false` where this passes 128 bits.
+    /// Lets the variable at place `j` enter the basis in row `i`, or answers `false` where this exceeds 128 bits.
     #[tactic(auto, using(crate::proofs::RunLemmas::pivots))]
     fn pivot(&mut self, i: usize, j: usize) -> bool
         requires row { i < 1 + self.old.constraints }

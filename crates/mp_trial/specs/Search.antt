@@ -4,7 +4,7 @@ use Rattle.mp_model.specs.Network.{Network, Movement}
 use Rattle.mp_model.specs.Certificate.{Cert, Certifies}
 use Rattle.mp_trial.specs.Trials.{Trial, Fits, Unfit, Endless, PassesIn, LimitIn, trial}
 
--- A search finds a certificate, finds that there is none, or ends with a trial: of the excess e, which doesn't end within the limit of sweeps, or at junction j, where a calculation passes 128 bits or comes to its limit of turns.
+-- A search finds a certificate, finds that there is none, or ends with a trial: of the excess e, which doesn't end within the limit of sweeps, or at junction j, where a calculation exceeds 128 bits or comes to its limit of turns.
 pub data Scaled : Type 0 where
   Found : Cert → Scaled
   NoneAt : Scaled

@@ -10,7 +10,7 @@ use Rattle.mp_verdict.specs.Game.{turn_limit}
 use Rattle.mp_verdict.specs.Mixes.{mix_of}
 use Rattle.mp_trial.specs.Sweeps.{rates_after, is_above, sweeps_before_last}
 
--- A trial fits with a certificate, is unfit, doesn't end within the limit of sweeps, or ends at a junction whose calculation passes 128 bits or comes to its limit of turns.
+-- A trial fits with a certificate, is unfit, doesn't end within the limit of sweeps, or ends at a junction whose calculation exceeds 128 bits or comes to its limit of turns.
 pub data Trial : Type 0 where
   Fits : Cert → Trial
   Unfit : Trial
@@ -28,7 +28,7 @@ by_value j o None go = PassesIn j
 by_value j o (Some true) go = Unfit
 by_value j o (Some false) go = go (mix_of o)
 
--- The trial goes on by the outcome of the program of junction j. A program that grows without end, as none of a network does, counts as passing 128 bits.
+-- The trial goes on by the outcome of the program of junction j. A program that grows without end, as none of a network does, counts as exceeding 128 bits.
 abbrev pub by_outcome : ℕ → ℕ → Outcome → (Mix → Trial) → Trial
 by_outcome D j (Optimal o) go = by_value j o (is_above_whole D o) go
 by_outcome D j (Ray x) go = PassesIn j

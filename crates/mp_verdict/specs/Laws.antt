@@ -54,7 +54,7 @@ BoundedLaw = (net : Network) → IsNetwork net → (j : ℕ) → 1 ≤ j → j �
 abbrev pub MotionLaw : Type 0
 MotionLaw = (net : Network) → IsNetwork net → (flows : Flows) → AreFlows net flows → game net flows ≡ Reached None → length net.movements ≡ 0
 
--- The rates at the slack of the game's end pass nothing.
+-- In the rates at the slack of the game's end nothing exceeds 128 bits.
 abbrev pub RatesLaw : Type 0
 RatesLaw = (net : Network) (flows : Flows) (standing : Standing) → game net flows ≡ Reached (Some standing) → (rates : Rates) × (rates_at net flows standing.slack ≡ Some rates)
 

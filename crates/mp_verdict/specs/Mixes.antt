@@ -28,7 +28,7 @@ mixes net rates = each_reached (mixed net rates) (junction_numbers net)
 abbrev pub certificate_of : Rates → List Mix → Cert
 certificate_of rates list = record { d = rates.d; e = rates.e; h = rates.h; mixes = list }
 
--- This is the certificate at a slack. The rates at the slack of the game's end were found in the game, so that they pass nothing here.
+-- This is the certificate at a slack. The rates at the slack of the game's end were found in the game, so that nothing in them exceeds 128 bits here.
 unfoldable pub certificate_at : Network → Flows → Fraction → Stated Cert
 certificate_at net flows slack =
     then (at_place (Place.Mix 1) (rates_at net flows slack)) (λ rates.

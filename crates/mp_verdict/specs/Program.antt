@@ -27,7 +27,7 @@ program net j h = record {
   c = map (int_entry h) (own net j);
 }
 
--- This is the optimum of the program of junction j, by its outcome. A program that grows without end, as none of a network does, counts as passing 128 bits.
+-- This is the optimum of the program of junction j, by its outcome. A program that grows without end, as none of a network does, counts as exceeding 128 bits.
 abbrev pub optimum_at : Place → ℕ → Outcome → Stated Optimum
 optimum_at place j (Optimal o) = Reached o
 optimum_at place j (Ray x) = PassesAt place

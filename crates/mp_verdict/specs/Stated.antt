@@ -4,7 +4,7 @@ use Rattle.mp_flow.specs.declared.network.Place.{Place}
 use Rattle.mp_flow.specs.declared.network.CalcFault.{CalcFault}
 use Rattle.mp_flow.specs.declared.network.CalcFault.TheVariants as Calculating
 
--- A stated calculation reaches a value, passes 128 bits at a place, or comes to the limit of turns at a junction.
+-- A stated calculation reaches a value, exceeds 128 bits at a place, or comes to the limit of turns at a junction.
 pub data Stated (X : Type 0) : Type 0 where
   Reached : X → Stated X
   PassesAt : Place → Stated X
@@ -16,7 +16,7 @@ then (Reached x) go = go x
 then (PassesAt place) go = PassesAt place
 then (LimitAt j) go = LimitAt j
 
--- This is a calculation at a place, which passes 128 bits there or reaches its value.
+-- This is a calculation at a place, which exceeds 128 bits there or reaches its value.
 abbrev pub at_place : {X : Type 0} → Place → Option X → Stated X
 at_place place None = PassesAt place
 at_place place (Some x) = Reached x
@@ -31,7 +31,7 @@ unfoldable pub each_reached : {X Y : Type 0} → (X → Stated Y) → List X →
 each_reached f [] = Reached []
 each_reached f (x ∷ xs) = then (f x) (λ y. then (each_reached f xs) (λ ys. Reached (y ∷ ys)))
 
--- A result gives what a calculation states: the value, its place where it passes 128 bits, or its junction at the limit of turns; want of memory says nothing.
+-- A result gives what a calculation states: the value, its place where it exceeds 128 bits, or its junction at the limit of turns; want of memory says nothing.
 abbrev pub Gives : {X Y : Type 0} → (X → Y) → Result X CalcFault → Stated Y → Type 0
 Gives seen (Ok x) stated = stated ≡ Reached (seen x)
 Gives seen (Err (Calculating.Overflow place)) stated = stated ≡ PassesAt place

@@ -41,7 +41,7 @@ ring n = record {
   junctions = map (λ i. record { name = []; stages = ((2 * i - 1) ∷ (2 * i) ∷ []) ∷ [] }) (numbers_to n);
 }
 
--- The worked networks are admitted with their certificates and slacks; two approaches of rate 4 are critical, and of rate 5 overloaded, as the vector 1, 1 shows; the corridor has the slack 57387/9974, and a ring of 40 links exceeds 128 bits in its flows. Where the two sums of the vector exceed them, their place is told before the slack's sign.
+-- The worked networks are admitted with their certificates and slacks; two approaches of rate 4 are critical, and of rate 5 overloaded, as the vector 1, 1 shows; the corridor has the slack 57387/9974, and a ring of 40 links exceeds 128 bits in its flows. Where the two sums of the vector exceed them, their place is reported before the slack's sign.
 pub record AreWorkedVerdicts : Type 0 where
   pub one : verdict_on two_approaches ≡ Reached (Admitted two_approaches_cert (pos 1 ∷ pos 1 ∷ []) (record { num = pos 3; den = pos 4 }))
   pub queues : verdict_on tandem ≡ Reached (Admitted tandem_cert (pos 1 ∷ pos 1 ∷ []) (record { num = pos 1; den = pos 4 }))

@@ -46,7 +46,7 @@ pub fn motion_law()
     ensures { MotionLaw }
 {}
 
-/// The rates at the slack of the game's end pass nothing.
+/// In the rates at the slack of the game's end nothing exceeds 128 bits.
 pub fn rates_law()
     ensures { RatesLaw }
 {}
