@@ -1,5 +1,6 @@
 -- How a command comes to the greatest slack, and to a session under a certificate.
-use Rattle.std.proofs.Common.{◌≡◌, ◌≤◌, ◌<◌, ◌+◌, ◌*◌, ◌+ℤ◌, ◌*ℤ◌, ◌≤ℤ◌, ℕ, ℤ, pos, List, refl, sym, ◌∙◌, ap, subst, arith, nat_abs, unsigned_abs, inl, inr, ⊎_elim, Err, mul-le-mul_left}
+use Rattle.std.proofs.Common.{◌≡◌, ◌≤◌, ◌<◌, ◌+◌, ◌*◌, ◌+ℤ◌, ◌*ℤ◌, ◌≤ℤ◌, ℕ, ℤ, pos, List, refl, sym, ◌∙◌, ap, subst, arith, nat_abs, unsigned_abs, inl, inr, ⊎_elim, Err, mul-le-mul_left, Some, None, Ok}
+use Rattle.std.specs.declared.option.Option.{Option}
 use Rattle.std.proofs.lemmas.Int.{ints}
 use Rattle.std.proofs.Math.Nat.{le_of_mul-le-mul_left}
 use Rattle.mp_model.specs.Arrivals.{IsPermitted}
@@ -20,7 +21,7 @@ use Rattle.mp_cert.specs.declared.types.CertFault.{CertFault}
 use Rattle.mp_cert.specs.declared.types.CertFault.TheVariants as fault
 use Rattle.mp_cert.proofs.CheckLaw.{first_fault, complete}
 use Rattle.mp_verdict.specs.Laws.{IsAdmitted}
-use Rattle.mp_drift.specs.Bounded.{excess, denominator}
+use Rattle.mp_drift.specs.Bounded.{excess, denominator, FindsGreatest}
 use Rattle.mp_drift.specs.Session.{IsRefused, Bounded, IsBounded}
 use Rattle.mp_press.specs.Queues.{naturals}
 use Rattle.mp_run.proofs.BoundLemmas.{naturals_are, stays_within}
@@ -30,14 +31,13 @@ use Rattle.mp_gen.specs.Demonstration.{Demonstrated}
 use Rattle.mp_gen.specs.DemoText.{demo_summary}
 use Rattle.mp_run.specs.Running.{StaysWithin}
 use Rattle.mp_cli.specs.declared.outcome.CertRule.{CertRule}
-use Rattle.mp_cli.specs.declared.outcome.CertRule.TheVariants as rule
 use Rattle.mp_cli.specs.declared.outcome.Outcome.{Outcome}
 use Rattle.mp_cli.specs.declared.outcome.Outcome.TheVariants.{Critical, Overloaded, Certificate, Overflow}
 use Rattle.mp_cli.specs.Checking.{RefusesCert}
-use Rattle.mp_cli.specs.Outcomes.{outcome_of_opening, outcome_of_fault, fault_of}
+use Rattle.mp_cli.specs.Outcomes.{outcome_of_opening, outcome_of_fault, outcome_of_rule, broken_rule}
 use Rattle.mp_cli.specs.Demonstrating.{IsShownRun}
 use Rattle.mp_cli.specs.Ports.{Ports, IsUntouched, Answers}
-use Rattle.mp_cli.specs.Sessions.{HoldsWith, IsBroken, IsUnopened, IsUnaccepted, Opens, OnSession, OnAnySession, AtGreatest}
+use Rattle.mp_cli.specs.Sessions.{HoldsWith, IsUnopened, IsUnaccepted, Opens, OnSession, OnAnySession, AtGreatest}
 use Rattle.mp_cli.specs.Verdicts.{numbers, IsUnadmitted, IsUnfinished, OfAdmitted, HasGreatestSlack}
 
 -- equal fractions have equal cross products
@@ -55,20 +55,11 @@ slack_same net cert certifies E D E' D' s s' =
     lowest_unique E D E' D' s.lowest.denominator s'.lowest.denominator
     (crossed (nat_abs cert.e) (nat_abs cert.d) E D E' D' (excess_is cert.d certifies.rules.denominator).1 (slack_is net cert certifies E D s) (slack_is net cert certifies E' D' s')) s.lowest.coprime s'.lowest.coprime
 
--- no rule is named as an overflow
-no_overflow : (rule : CertRule) → fault_of rule ≡ fault.Overflow → ⊥
-no_overflow rule.D same = cc
-no_overflow rule.E same = cc
-no_overflow (rule.H k) same = cc
-no_overflow (rule.Whole j) same = cc
-no_overflow (rule.Part j s) same = cc
-no_overflow (rule.Mass j) same = cc
-no_overflow (rule.Serve k) same = cc
-no_overflow (rule.Balance k) same = cc
-
 -- a certificate that certifies breaks no rule
 unopened : (outcome : Outcome) (net : Network) (cert : Cert) → Certifies net cert → IsUnaccepted outcome net cert → IsUnopened outcome net cert
-unopened (Certificate rule) net cert certifies is = absurd (no_overflow rule (complete net cert certifies.rules.lengths (Err (fault_of rule)) (sym is.told) certifies))
+unopened (Certificate rule) net cert certifies is =
+    let overflow : is.fault ≡ fault.Overflow = complete net cert certifies.rules.lengths (Err is.fault) (sym is.told) certifies in
+    absurd (let wrong = sym is.names ∙ ap broken_rule overflow in cc)
 unopened outcome net cert certifies is = is
 
 module _ (net : Network) (cert : Cert) (by : OfAdmitted net (λ c. c ≡ cert)) where
@@ -82,7 +73,7 @@ module _ (net : Network) (cert : Cert) (by : OfAdmitted net (λ c. c ≡ cert)) 
   pub has_greatest : HasGreatestSlack net cert
   has_greatest = record { certifies = admitted.certifies; num = unsigned_abs by.slack.num; den = unsigned_abs by.slack.den; slack = admitted.reaches; greatest = admitted.greatest }
 
-  with_greatest : (P : ℕ → ℕ → List ℕ → Type 0) → HoldsWith net P cert → HoldsWith net (AtGreatest net P) cert
+  abbrev with_greatest : (P : ℕ → ℕ → List ℕ → Type 0) → HoldsWith net P cert → HoldsWith net (AtGreatest net P) cert
   with_greatest P holds =
       let same = slack_same net cert admitted.certifies (unsigned_abs by.slack.num) (unsigned_abs by.slack.den) holds.num holds.den admitted.reaches holds.slack in
       let greatest = subst (λ (E : ℕ). IsGreatestSlack net E holds.den) same.0 (subst (λ (D : ℕ). IsGreatestSlack net (unsigned_abs by.slack.num) D) same.1 admitted.greatest) in
@@ -91,7 +82,7 @@ module _ (net : Network) (cert : Cert) (by : OfAdmitted net (λ c. c ≡ cert)) 
   -- under the certificate of the greatest slack no rule is broken
   pub on_session : (outcome : Outcome) (ports : Ports) (P : ℕ → ℕ → List ℕ → Type 0) → OnAnySession outcome net cert ports P → OfAdmitted net (λ c. OnSession outcome net c ports (AtGreatest net P))
   on_session outcome ports P so = admits (λ c. OnSession outcome net c ports (AtGreatest net P))
-      (⊎_elim (λ (refused : IsUnaccepted outcome net cert × IsUntouched ports). inl (unopened outcome net cert admitted.certifies refused.0, refused.1)) (λ (opens : Opens net P cert). inr (record { holds = with_greatest P opens.holds })) so)
+      (⊎_elim (λ (refused : IsUnaccepted outcome net cert × IsUntouched ports). inl (unopened outcome net cert admitted.certifies refused.0, refused.1)) (λ (opens : Opens net P cert). inr (record { checked = opens.checked; holds = with_greatest P opens.holds; found = opens.found })) so)
 
 over_plain : (D E : ℤ) (l s c : ℕ) → pos 1 ≤ℤ D → pos 1 ≤ℤ E → (D *ℤ pos l +ℤ E *ℤ pos s) ≤ℤ (D *ℤ pos c) → c < l → ⊥
 over_plain (pos d) (pos e) l s c some more m above =
@@ -115,19 +106,16 @@ demo_unfinished (Overloaded against) net network certified is = absurd (not_over
 demo_unfinished outcome net network certified is = is
 
 -- why a certificate is not accepted
-broken_so : (rule : CertRule) (net : Network) (cert : Cert) → HasLengths net cert → check_outcome net cert ≡ Err (fault_of rule) → IsBroken net rule cert
-broken_so rule net cert lengths refused = record { told = refused; first = first_fault net cert lengths (Err (fault_of rule)) (sym refused) }
+no_rule : (broken : CertFault) → broken_rule broken ≡ None → broken ≡ fault.Overflow
+no_rule fault.Overflow none = refl
+no_rule broken none = absurd (let wrong = none in cc)
 
 pub fault_so : (broken : CertFault) (net : Network) (cert : Cert) → HasLengths net cert → check_outcome net cert ≡ Err broken → RefusesCert (outcome_of_fault broken) net cert
-fault_so fault.D net cert lengths refused = broken_so rule.D net cert lengths refused
-fault_so fault.E net cert lengths refused = broken_so rule.E net cert lengths refused
-fault_so (fault.H k) net cert lengths refused = broken_so (rule.H k) net cert lengths refused
-fault_so (fault.Whole j) net cert lengths refused = broken_so (rule.Whole j) net cert lengths refused
-fault_so (fault.Part j s) net cert lengths refused = broken_so (rule.Part j s) net cert lengths refused
-fault_so (fault.Mass j) net cert lengths refused = broken_so (rule.Mass j) net cert lengths refused
-fault_so (fault.Serve k) net cert lengths refused = broken_so (rule.Serve k) net cert lengths refused
-fault_so (fault.Balance k) net cert lengths refused = broken_so (rule.Balance k) net cert lengths refused
-fault_so fault.Overflow net cert lengths refused = refused
+fault_so broken net cert lengths refused = by (broken_rule broken) refl
+  where
+    by : (named : Option CertRule) → broken_rule broken ≡ named → RefusesCert (outcome_of_rule named) net cert
+    by (Some rule) names = record { fault = broken; names = names; told = refused; first = first_fault net cert lengths (Err broken) (sym refused) }
+    by None names = refused ∙ ap Err (no_rule broken names)
 
 refused_unaccepted : (outcome : Outcome) (net : Network) (cert : Cert) → RefusesCert outcome net cert → IsUnaccepted outcome net cert
 refused_unaccepted (Certificate rule) net cert refused = refused
@@ -144,29 +132,31 @@ opening_so opening.NoMemory net cert lengths refused = tt
 
 -- what is known under a certificate when a session is open
 pub record Stood (net : Network) (cert : Cert) (num den : ℕ) (bounds : List ℕ) : Type 0 where
+  pub checked : check_outcome net cert ≡ Ok tt
   pub certifies : Certifies net cert
   pub slack : IsSlack cert num den
+  pub found : FindsGreatest net num den
   pub are : AreBounds net num den bounds
   pub room : HasRoom bounds
   pub within : (A : List (List ℕ)) → IsPermitted net A → StaysWithin net bounds A
 
-pub holds_with : (net : Network) (cert : Cert) (num den : ℕ) (bounds : List ℕ) → Stood net cert num den bounds → (P : ℕ → ℕ → List ℕ → Type 0) → P num den bounds → HoldsWith net P cert
-holds_with net cert num den bounds stood P is = record {
-  certifies = stood.certifies;
-  num = num;
-  den = den;
-  slack = stood.slack;
-  holds = record { bounds = bounds; are = stood.are; room = stood.room; within = stood.within; is = is };
+pub opens_with : (net : Network) (cert : Cert) (num den : ℕ) (bounds : List ℕ) → Stood net cert num den bounds → (P : ℕ → ℕ → List ℕ → Type 0) → P num den bounds → Opens net P cert
+opens_with net cert num den bounds stood P is = record {
+  checked = stood.checked;
+  holds = record { certifies = stood.certifies; num = num; den = den; slack = stood.slack; holds = record { bounds = bounds; are = stood.are; room = stood.room; within = stood.within; is = is } };
+  found = stood.found;
 }
 
 -- what a session stands for behind its opening
-pub stood_of : (net : Network) (cert : Cert) (s : Bounded) → IsBounded s → s.net ≡ net → Certifies net cert → IsSlack cert (excess s.slack) (denominator s.slack) → Stood net cert (excess s.slack) (denominator s.slack) (naturals s.bounds)
-stood_of net cert s bounded same certifies slack =
+pub stood_of : (net : Network) (cert : Cert) (s : Bounded) → IsBounded s → s.net ≡ net → check_outcome net cert ≡ Ok tt → Certifies net cert → IsSlack cert (excess s.slack) (denominator s.slack) → FindsGreatest net (excess s.slack) (denominator s.slack) → Stood net cert (excess s.slack) (denominator s.slack) (naturals s.bounds)
+stood_of net cert s bounded same checked certifies slack found =
     let list : naturals s.bounds ≡ bounded.bounds.bounds = ap naturals bounded.bounds.listed ∙ naturals_are bounded.bounds.bounds in
     let are = subst (λ (n : Network). AreBounds n (excess s.slack) (denominator s.slack) bounded.bounds.bounds) same bounded.bounds.are in
     record {
+      checked = checked;
       certifies = certifies;
       slack = slack;
+      found = found;
       are = subst (λ (bounds : List ℕ). AreBounds net (excess s.slack) (denominator s.slack) bounds) (sym list) are;
       room = subst HasRoom (sym list) bounded.bounds.room;
       within = subst (λ (n : Network). (A : List (List ℕ)) → IsPermitted n A → StaysWithin n (naturals s.bounds) A) same (stays_within s bounded);
@@ -180,7 +170,7 @@ header_same n net f slack b bounds one two three =
 
 -- the summary of a demonstration is that of its run under the certificate
 pub shown_run : (net : Network) (cert : Cert) (n : ℕ) (s s' : Bounded) (greatest : ℕ) (outcome : Outcome) (ports : Ports) → Stood net cert (excess s.slack) (denominator s.slack) (naturals s.bounds) → s.net ≡ net → s' ≡ record s { at = s'.at; stages = s'.stages }
-    → Demonstrated s.net n s'.at greatest → ((shown : Demonstrated s'.net n s'.at greatest) → Answers outcome ports (demo_summary n s'.net (excess s'.slack) (denominator s'.slack) (naturals s'.bounds) shown.arrivals)) → HoldsWith net (IsShownRun outcome net n ports) cert
+    → Demonstrated s.net n s'.at greatest → ((shown : Demonstrated s'.net n s'.at greatest) → Answers outcome ports (demo_summary n s'.net (excess s'.slack) (denominator s'.slack) (naturals s'.bounds) shown.arrivals)) → Opens net (IsShownRun outcome net n ports) cert
 shown_run net cert n s s' greatest outcome ports stood on same shown told =
     let net_same : s'.net ≡ s.net = ap (λ (b : Bounded). b.net) same in
     let slack_kept : s'.slack ≡ s.slack = ap (λ (b : Bounded). b.slack) same in
@@ -191,5 +181,5 @@ shown_run net cert n s s' greatest outcome ports stood on same shown told =
     subst (λ (m : Network). Answers outcome ports (demo_summary n m (excess s.slack) (denominator s.slack) (naturals s.bounds) A)) (net_same ∙ on)
     (subst (λ (f : Fraction). Answers outcome ports (demo_summary n s'.net (excess f) (denominator f) (naturals s.bounds) A)) slack_kept
     (subst (λ (bounds : List ℤ). Answers outcome ports (demo_summary n s'.net (excess s'.slack) (denominator s'.slack) (naturals bounds) A)) bounds_same (told there))) in
-    holds_with net cert (excess s.slack) (denominator s.slack) (naturals s.bounds) stood (IsShownRun outcome net n ports)
+    opens_with net cert (excess s.slack) (denominator s.slack) (naturals s.bounds) stood (IsShownRun outcome net n ports)
     (record { arrivals = A; periods = there.periods; drawn = there.drawn; permitted = subst (λ (m : Network). IsPermitted m A) (net_same ∙ on) there.permitted; answers = written })

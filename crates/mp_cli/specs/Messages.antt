@@ -63,7 +63,7 @@ cert_rule_text (Mass j) = codes "mass " ++ decimal j
 cert_rule_text (Serve k) = codes "serve " ++ decimal k
 cert_rule_text (Balance k) = codes "balance " ++ decimal k
 
--- This is the place of a calculation that passes 128 bits, with the number of the junction.
+-- This is the place of a calculation that exceeds 128 bits, with the number of the junction.
 abbrev pub place_text : Place → List ℕ
 place_text at.Flow = codes "flow"
 place_text (at.Game j) = codes "game " ++ decimal j

@@ -15,17 +15,6 @@ use Rattle.mp_cli.specs.declared.outcome.CertRule.TheVariants as rule
 use Rattle.mp_cli.specs.declared.outcome.Outcome.{Outcome}
 use Rattle.mp_cli.specs.declared.outcome.Outcome.TheVariants.{Certificate, Overflow, PivotLimit, SweepLimit, NoMemory}
 
--- This is the fault that names a rule.
-abbrev pub fault_of : CertRule → CertFault
-fault_of rule.D = fault.D
-fault_of rule.E = fault.E
-fault_of (rule.H k) = fault.H k
-fault_of (rule.Whole j) = fault.Whole j
-fault_of (rule.Part j s) = fault.Part j s
-fault_of (rule.Mass j) = fault.Mass j
-fault_of (rule.Serve k) = fault.Serve k
-fault_of (rule.Balance k) = fault.Balance k
-
 -- This is the rule that a fault names; an overflow names none.
 abbrev pub broken_rule : CertFault → Option CertRule
 broken_rule fault.D = Some rule.D

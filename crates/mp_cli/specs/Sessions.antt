@@ -1,5 +1,5 @@
 -- What stands under a certificate: its check, the bounds of its slack, and what no queue exceeds.
-use Rattle.std.specs.Prelude.{◌≡◌, ℕ, List, Err}
+use Rattle.std.specs.Prelude.{◌≡◌, ℕ, List, Err, Some, Ok}
 use Rattle.mp_model.specs.Arrivals.{IsPermitted}
 use Rattle.mp_model.specs.Bounds.{AreBounds, HasRoom}
 use Rattle.mp_model.specs.Certificate.{Cert, Certifies}
@@ -7,8 +7,9 @@ use Rattle.mp_model.specs.Network.{Network}
 use Rattle.mp_model.specs.Slack.{IsSlack, IsGreatestSlack}
 use Rattle.mp_cert.specs.Checking.{check_outcome}
 use Rattle.mp_cert.specs.FirstBroken.{IsFirstFault}
-use Rattle.mp_cert.specs.declared.types.CertFault.TheVariants as fault
-use Rattle.mp_drift.specs.Bounded.{HasNoRoom}
+use Rattle.mp_cert.specs.declared.types.CertFault.{CertFault}
+use Rattle.mp_cert.specs.declared.types.CertFault.TheVariants.{Overflow as PassesCheck}
+use Rattle.mp_drift.specs.Bounded.{FindsGreatest, HasNoRoom}
 use Rattle.mp_drift.specs.Session.{IsUnbounded, PassesBound}
 use Rattle.mp_flow.specs.declared.network.Place.{Place}
 use Rattle.mp_flow.specs.declared.network.Place.TheVariants as at
@@ -16,7 +17,7 @@ use Rattle.mp_run.specs.Running.{StaysWithin}
 use Rattle.mp_cli.specs.declared.outcome.CertRule.{CertRule}
 use Rattle.mp_cli.specs.declared.outcome.Outcome.{Outcome}
 use Rattle.mp_cli.specs.declared.outcome.Outcome.TheVariants.{Certificate, Overflow, NoMemory}
-use Rattle.mp_cli.specs.Outcomes.{fault_of}
+use Rattle.mp_cli.specs.Outcomes.{broken_rule}
 use Rattle.mp_cli.specs.Ports.{Ports, RefusedOr}
 
 -- Under the slack num/den there are bounds that have room; over all permitted arrivals no queue exceeds its bound; and the fact is true of the slack and the bounds.
@@ -44,17 +45,19 @@ pub record HoldsWithGreatest (net : Network) (P : ℕ → ℕ → List ℕ → T
 
 -- A certificate breaks the rule, keeps all before it, and no calculation before exceeds 128 bits.
 pub record IsBroken (net : Network) (rule : CertRule) (cert : Cert) : Type 0 where
-  pub told : check_outcome net cert ≡ Err (fault_of rule)
-  pub first : IsFirstFault net cert (fault_of rule)
+  pub fault : CertFault
+  pub names : broken_rule fault ≡ Some rule
+  pub told : check_outcome net cert ≡ Err fault
+  pub first : IsFirstFault net cert fault
 
 -- A calculation of a certificate's check, of the bounds under it, or the room for these exceeds its limit.
 abbrev pub PassesUnder : Network → Place → Cert → Type 0
-PassesUnder net at.Certificate cert = check_outcome net cert ≡ Err fault.Overflow
+PassesUnder net at.Certificate cert = check_outcome net cert ≡ Err PassesCheck
 PassesUnder net at.Bound cert = IsUnbounded net cert PassesBound
 PassesUnder net at.Room cert = IsUnbounded net cert HasNoRoom
 PassesUnder net place cert = ⊥
 
--- No session is opened under a certificate that certifies: a calculation passes, or memory was wanting.
+-- No session is opened under a certificate that certifies: a calculation exceeds its limit, or memory was wanting.
 abbrev pub IsUnopened : Outcome → Network → Cert → Type 0
 IsUnopened (Overflow place) net cert = PassesUnder net place cert
 IsUnopened NoMemory net cert = Unit {0}
@@ -70,9 +73,11 @@ pub record HasBounds (net : Network) (cert : Cert) : Type 0 where
   pub found : (num den : ℕ) → IsSlack cert num den → ¬ PassesBound net num den
   pub room : (num den : ℕ) → IsSlack cert num den → ¬ HasNoRoom net num den
 
--- A session is opened under a certificate: no calculation exceeds anything, and the fact is true of the slack and the bounds.
+-- A session is opened under a certificate: no calculation of its check or of its bounds exceeds 128 bits, and the fact is true of the slack and the bounds.
 pub record Opens (net : Network) (P : ℕ → ℕ → List ℕ → Type 0) (cert : Cert) : Type 0 where
+  pub checked : check_outcome net cert ≡ Ok tt
   pub holds : HoldsWith net P cert
+  pub found : FindsGreatest net holds.num holds.den
 
 -- A command under a certificate that certifies: no session is opened, or the fact is true of the slack and the bounds.
 abbrev pub OnSession : Outcome → Network → Cert → Ports → (ℕ → ℕ → List ℕ → Type 0) → Type 0

@@ -18,11 +18,12 @@ use Rattle.mp_cli.specs.Ports.{Ports, RefusedOr}
 abbrev pub numbers : List ℤ → List ℕ
 numbers p = map unsigned_abs p
 
--- A network is critical, as the vector of the stated calculation shows, and no certificate holds.
+-- A network is critical, as the vector of the stated calculation shows: its rates are carried, and no certificate certifies it.
 pub record IsShownCritical (net : Network) (vector : List ℤ) : Type 0 where
   pub reached : verdict net (weighed net) ≡ Reached (judged.Critical vector)
   pub tight : IsTight net (numbers vector)
   pub critical : IsCritical net
+  pub carried : Carries net
   pub none : (cert : Cert) → ¬ Certifies net cert
 
 -- A network is overloaded, as the vector of the stated calculation shows, and so does not carry its rates.

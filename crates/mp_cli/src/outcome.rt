@@ -93,7 +93,7 @@ pub enum Outcome {
     WeakVector,
     /// There is no certificate with the denominator that was asked for.
     NoCertificate,
-    /// A calculation passes 128 bits at this place.
+    /// A calculation exceeds 128 bits at this place, or a bound has no room.
     Overflow(Place),
     /// The turns of the game, or of a junction's program, end at this junction first.
     PivotLimit(JunctionNo),

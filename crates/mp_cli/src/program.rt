@@ -61,15 +61,21 @@ fn obey<St: Store, In: Source, Out: Sink>(
 /// long run on a network of its own; `scale NET D` writes the greatest certificate over a denominator.
 ///
 /// Every status but 0 has its line on `err`, whose faults are ignored: 1 for words that are not listed,
-/// 2 for a fault of the store, 3 for the first rule that the network file breaks and for the first line
-/// of the other file that is not in its grammar, 4 for a network that is critical or overloaded, with the
+/// 2 for a fault of the store, 3 for the first rule that the network file breaks and for another file
+/// that is longer than 1,048,576 bytes, or for its first line that is not in its grammar, 4 for a network
+/// that is critical, so that its rates are carried and no certificate holds, or overloaded, with the
 /// vector that shows it, for the first rule that a certificate breaks, for a vector that shows nothing,
-/// and where no certificate has the denominator, 5 for a calculation that passes 128 bits, 6 for the
-/// limit of turns at a junction, 7 for the first line of the stream that is too long or not in the
-/// grammar, 8 for the first period of the stream in which some link does not keep to its bucket, 9 for
-/// more than 2^48 lines, 10 for a fault of the input, 11 for one of the output, 12 for want of memory,
-/// which comes before the first byte is put, 13 for the first line that differs from a log, and 15 for
-/// the limit of sweeps.
+/// and where no certificate has the denominator, 5 for a calculation that exceeds 128 bits or a bound
+/// without room, 6 for the limit of turns at a junction, 7 for the first line of the stream that is too
+/// long or not in the grammar, 8 for the first period of the stream in which some link does not keep to
+/// its bucket, 9 for more than 2^48 lines, 10 for a fault of the input, 11 for one of the output, 12 for
+/// want of memory, which comes before the first byte is put, 13 for the first line that differs from a
+/// log, and 15 for the limit of sweeps.
+///
+/// Refusals come in the order of the layers: the network file, the other file, the verdict, the check of
+/// the certificate, its bounds, and then the input and the output, which no refusal before touches. Each
+/// layer says both ways whether it refuses: a stream is run, and a log read, only on a network whose
+/// verdict, check and bounds exceed nothing.
 pub fn top<St: Store, In: Source, Out: Sink, Er: Sink>(
     alloc: Global,
     words: &[String],

@@ -120,13 +120,7 @@ fn start_drift(net: &Net) -> u128
 
 /// The greatest drift value at a threshold, or `None` where the calculation passes 128 bits.
 #[tactic(auto, using(crate::proofs::Fitting::fitting_is), unfolding(crate::specs::Stated::greatest_from))]
-fn greatest(
-    unit: u128,
-    credits: u128,
-    drift: u128,
-    starts: u128,
-    threshold: u128,
-) -> Option<u128>
+fn greatest(unit: u128, credits: u128, drift: u128, starts: u128, threshold: u128) -> Option<u128>
     requires unit { unit ≤ 3600000 }
     requires credits { credits < 2 ^ 127 }
     requires drift { drift < 2 ^ 127 }

@@ -90,8 +90,7 @@ module _ (net : Network) (ok : IsNetwork net) (cert : PlainCert) (holds : Holds 
       let next : ℕ → ℕ = λ l. next_level net.per (link_at net l).rate (level l) (arrivals_of net counts l) in
       let now = step net stages (arrivals_of net counts) history.now in
       let moves = step_is net ok stages counts history.now level within in
-      let within' = AllOf-map (λ l. StaysWithin net.per (link_at net l).burst (link_at net l).rate (level l) (map (λ counts. arrivals_of net counts l) (map (λ period. period.counts) (period ∷ periods)))) (λ l. next l ≤ net.per * (link_at net l).burst) (λ l s. s.0) (link_numbers net) stays in
-      (
+      let within' = AllOf-map (λ l. StaysWithin net.per (link_at net l).burst (link_at net l).rate (level l) (map (λ counts. arrivals_of net counts l) (map (λ period. period.counts) (period ∷ periods)))) (λ l. next l ≤ net.per * (link_at net l).burst) (λ l s. s.0) (link_numbers net) stays in (
         bounded_at net ok cert holds some root is history.now level within top,
         reported_bounded root is periods (advance_by net period history) next within'
             (changes net ok stages (arrivals_of net counts) (queue history.now) (phase_of net history.now) level (queue now) (phase_of net now) next moves within', linked)

@@ -1,4 +1,4 @@
-use Rattle.mp_laws.proofs.Tied.{overload, tight}
+use Rattle.mp_laws.proofs.Tied.{overload}
 use Rattle.mp_cli.specs.Verdicts.{numbers}
 use Rattle.mp_cli.proofs.session.admitted.Goals as goal
 
@@ -6,7 +6,7 @@ pub returns-in-Ok-Critical-clause-refused : goal.returns-in-Ok-Critical-clause-r
 returns-in-Ok-Critical-clause-refused c =
     let reached = rw c.in-Ok-Critical.field-0-is at c.in-Ok-Critical.ensures.calculation in
     let holds = rw c.in-Ok-Critical.field-0-is at c.in-Ok-Critical.ensures.holds in
-    record { reached = reached; tight = holds.1; critical = holds.2; none = tight c.args.net.now c.shares.ensures.acceptable.network (numbers c.in-Ok-Critical.against.p) holds.1 }
+    record { reached = reached; tight = holds.1; critical = holds.2; carried = holds.3.carries; none = holds.3.none }
 
 pub returns-in-Ok-Overloaded-clause-refused : goal.returns-in-Ok-Overloaded-clause-refused
 returns-in-Ok-Overloaded-clause-refused c =
