@@ -119,6 +119,3 @@ pub fn admit(alloc: Global, net: &Net) -> Result<Verdict, CalcFault>
         None => unreachable!(),
     }
 }
-
-#[cfg(test)]
-mod tests;

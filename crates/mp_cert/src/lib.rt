@@ -10,12 +10,8 @@ mod read_lines;
 mod read_numbers;
 mod rules;
 mod slacks;
-#[cfg(test)]
-mod tests;
 mod text_fault;
 mod text_laws;
-#[cfg(test)]
-mod text_tests;
 mod types;
 mod weighing;
 

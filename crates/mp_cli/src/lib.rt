@@ -2,14 +2,10 @@
 #![tactic(auto)]
 
 mod auditing;
-#[cfg(test)]
-mod audits;
 mod certifying;
 mod checking;
 mod command;
 mod demonstrating;
-#[cfg(test)]
-mod greediest;
 mod message;
 mod opening;
 mod outcome;
@@ -21,8 +17,6 @@ mod scaling;
 mod session;
 mod showing;
 mod streaming;
-#[cfg(test)]
-mod tests;
 
 pub use command::Command;
 pub use outcome::{CertRule, FileRole, Outcome, TextKind};

@@ -10,6 +10,3 @@ mod terms;
 pub use crate::numbers::{DriftNumbers, constants};
 pub use crate::queue_bounds::{QueueBounds, bounds};
 pub use crate::session::{OpenFault, Session};
-
-#[cfg(test)]
-mod tests;

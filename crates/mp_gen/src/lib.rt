@@ -15,6 +15,3 @@ pub use laws::{
 };
 pub use network::demo_net;
 pub use text::put_demo;
-
-#[cfg(test)]
-mod tests;

@@ -7,12 +7,8 @@ mod fault;
 mod net;
 mod outlets;
 mod parts;
-#[cfg(test)]
-mod rule_tests;
 mod rules;
 mod tables;
-#[cfg(test)]
-mod tests;
 
 pub use check::check_parts;
 pub use constructor::build;

@@ -6,8 +6,6 @@ mod parts;
 mod print;
 mod read;
 mod tables;
-#[cfg(test)]
-mod tests;
 mod values;
 
 pub use print::print_net;

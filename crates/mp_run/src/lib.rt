@@ -6,6 +6,3 @@ mod run;
 
 pub use auditing::{AuditEnd, audit};
 pub use run::{RunEnd, run_stream};
-
-#[cfg(test)]
-mod tests;

@@ -12,6 +12,3 @@ mod sweep;
 
 pub use fault::ScaleFault;
 pub use search::greatest;
-
-#[cfg(test)]
-mod tests;

@@ -8,6 +8,3 @@ mod starts;
 mod state;
 
 pub use state::{AboveAt, State};
-
-#[cfg(test)]
-mod tests;
