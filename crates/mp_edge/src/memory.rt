@@ -301,6 +301,11 @@ mod tests {
         Ok(())
     }
 
+    // The sink answers so, and then holds this.
+    fn puts(sink: &mut MemSink, bytes: &str, want: Result<(), Failed>, held: &str) -> bool {
+        sink.put(bytes.as_bytes()) == want && sink.bytes() == held.as_bytes()
+    }
+
     #[test]
     fn sink_keeps_what_entries_and_room_allow(rt: HostRuntime) -> Result<(), Fail> {
         let mut sink = MemSink::new(rt.alloc(), 5, &[(2, 2), (2, 9), (4, 9)])?;
@@ -312,12 +317,23 @@ mod tests {
             ("", Ok(()), "abcde"),
             ("h", Err(Failed), "abcde"),
         ];
-        for (bytes, want, held) in rows {
-            assert_eq!(rt; sink.put(bytes.as_bytes()), want, "at {bytes}");
-            assert_eq!(rt; sink.bytes(), held.as_bytes(), "at {bytes}");
+        for (bytes, want, held) in rows.iter() {
+            assert!(rt; puts(&mut sink, bytes, *want, held), "at {bytes}");
         }
-        assert_eq!(rt; sink.faults, 4);
+        assert!(rt; sink.faults == 4);
         Ok(())
+    }
+
+    // The store answers so, and then has handed over this.
+    fn reads(
+        alloc: Global,
+        store: &mut MemStore,
+        (name, most): (&str, usize),
+        want: Result<(), StoreFault>,
+        text: &str,
+    ) -> bool {
+        let mut into = Vec::new(alloc);
+        store.read(alloc, name, &mut into, most) == want && into.as_slice() == text.as_bytes()
     }
 
     #[test]
@@ -337,12 +353,13 @@ mod tests {
             ("cert", 4, Ok(()), "four"),
             ("vector", 9, Err(StoreFault::Failed), ""),
         ];
-        for (name, most, want, text) in rows {
-            let mut into = Vec::new(alloc);
-            assert_eq!(rt; store.read(alloc, name, &mut into, most), want, "at {name}");
-            assert_eq!(rt; into.as_slice(), text.as_bytes(), "at {name}");
+        for (name, most, want, text) in rows.iter() {
+            assert!(rt;
+                reads(alloc, &mut store, (name, *most), *want, text),
+                "at {name}"
+            );
         }
-        assert_eq!(rt; store.faults, 2);
+        assert!(rt; store.faults == 2);
         Ok(())
     }
 }

@@ -228,19 +228,32 @@ mod tests {
     #[test]
     fn source_counts_errors(rt: HostRuntime) {
         let mut source = StdSource::new(Pipe::new(5, 3, true, false));
-        let mut buf = [0u8; 4];
         for (i, want) in [Ok(3), Ok(2), Err(Failed), Err(Failed)].iter().enumerate() {
-            assert_eq!(rt; source.take(&mut buf), *want, "in call {i}");
+            assert!(rt; source.take(&mut [0u8; 4]) == *want, "in call {i}");
         }
-        assert_eq!(rt; source.faults, 2);
+        assert!(rt; source.faults == 2);
         let mut ended = StdSource::new(Pipe::new(0, 3, false, false));
-        assert_eq!(rt; ended.take(&mut buf), Ok(0));
-        assert_eq!(rt; ended.faults, 0);
-        let mut whole = StdSource::new(b"abcdef".as_slice());
-        for (i, want) in ["abcd", "ef", ""].iter().enumerate() {
-            assert_eq!(rt; whole.take(&mut buf), Ok(want.len()), "in call {i}");
-            assert_eq!(rt; buf[..want.len()], *want.as_bytes(), "in call {i}");
+        assert!(rt; ended.take(&mut [0u8; 4]) == Ok(0) && ended.faults == 0);
+    }
+
+    #[test]
+    fn source_hands_out_each_byte(rt: HostRuntime) {
+        let mut source = StdSource::new(b"abcdef".as_slice());
+        let mut buf = [0u8; 4];
+        for want in ["abcd", "ef", ""] {
+            assert!(rt; source.take(&mut buf) == Ok(want.len()));
+            assert!(rt; &buf[..want.len()] == want.as_bytes());
         }
+    }
+
+    // Puts six bytes twice, and compares both answers, the count of faults and what the writer met.
+    fn writes(pipe: Pipe, want: [Result<(), Failed>; 2], moved: usize, flushes: u8) -> bool {
+        let mut sink = StdSink::new(pipe);
+        let first = sink.put(b"abcdef");
+        let second = sink.put(b"ghijkl");
+        let faults = first.is_err() as u64 + second.is_err() as u64;
+        let met = (sink.faults, sink.writer.moved, sink.writer.flushes);
+        [first, second] == want && met == (faults, moved, flushes)
     }
 
     // Each row puts six bytes twice: what the writer has room for, its piece, whether it is closed behind the room,
@@ -261,14 +274,37 @@ mod tests {
             .iter()
             .enumerate()
         {
-            let mut sink = StdSink::new(Pipe::new(*left, *piece, *closed, *flush_fails));
-            assert_eq!(rt; sink.put(b"abcdef"), *first, "in row {i}");
-            assert_eq!(rt; sink.put(b"ghijkl"), *second, "in row {i}");
-            let faults = first.is_err() as u64 + second.is_err() as u64;
-            assert_eq!(rt; sink.faults, faults, "in row {i}");
-            assert_eq!(rt; sink.writer.moved, *moved, "in row {i}");
-            assert_eq!(rt; sink.writer.flushes, *flushes, "in row {i}");
+            let pipe = Pipe::new(*left, *piece, *closed, *flush_fails);
+            assert!(rt;
+                writes(pipe, [*first, *second], *moved, *flushes),
+                "in row {i}"
+            );
         }
+    }
+
+    // A file of 10,000 bytes, above the size of any buffer on the way.
+    fn write_sevens(rt: &HostRuntime, name: &str) -> Result<(), Fail> {
+        fs::write(rt, name, [7u8; 10_000].as_slice())?;
+        Ok(())
+    }
+
+    // The store answers so, and then has handed over that many bytes.
+    fn reads(
+        alloc: Global,
+        store: &mut FileStore<HostRuntime>,
+        (name, most): (&str, usize),
+        want: Result<(), StoreFault>,
+        len: usize,
+    ) -> bool {
+        let mut into = Vec::new(alloc);
+        let answer = store.read(alloc, name, &mut into, most);
+        answer == want && into.len() == len && into.iter().all(|byte| *byte == 7)
+    }
+
+    // A file opened for reading takes no bytes.
+    fn is_closed(rt: &HostRuntime, name: &str) -> Result<bool, Fail> {
+        let mut sink = StdSink::new(fs::open(rt, name)?);
+        Ok(sink.put(b"ab") == Err(Failed) && sink.faults == 1)
     }
 
     #[test]
@@ -277,29 +313,28 @@ mod tests {
         let folder = env::temp_dir(&rt)?;
         let number = process::id(rt.process());
         let long = format!(in alloc; "{}/mp_edge_{number}", folder.display())?;
-        let missing = format!(in alloc; "{}_missing", long.as_str())?;
-        let bytes = [7u8; 10_000];
-        fs::write(&rt, long.as_str(), bytes.as_slice())?;
+        write_sevens(&rt, long.as_str())?;
         let mut store = FileStore::new(rt);
         let rows = [
-            (long.as_str(), 10_000, Ok(()), 10_000),
-            (long.as_str(), 9_999, Err(StoreFault::TooLong), 0),
-            (long.as_str(), 0, Err(StoreFault::TooLong), 0),
-            (missing.as_str(), 10_000, Err(StoreFault::Failed), 0),
-            (long.as_str(), usize::MAX, Ok(()), 10_000),
+            (10_000, Ok(()), 10_000),
+            (9_999, Err(StoreFault::TooLong), 0),
+            (0, Err(StoreFault::TooLong), 0),
+            (usize::MAX, Ok(()), 10_000),
         ];
-        for (name, most, want, len) in rows {
-            let mut into = Vec::new(alloc);
-            assert_eq!(rt; store.read(alloc, name, &mut into, most), want, "at {most}");
-            assert_eq!(rt; into.as_slice(), &bytes[..len], "at {most}");
+        for (most, want, len) in rows.iter() {
+            let read = reads(alloc, &mut store, (long.as_str(), *most), *want, *len);
+            assert!(rt; read, "at {most}");
         }
-        assert_eq!(rt; store.faults, 1);
-
-        // A file opened for reading takes no bytes.
-        let mut closed = StdSink::new(fs::open(&rt, long.as_str())?);
-        assert_eq!(rt; closed.put(b"ab"), Err(Failed));
-        assert_eq!(rt; closed.faults, 1);
+        assert!(rt; is_closed(&rt, long.as_str())?);
         fs::remove_file(&rt, long.as_str())?;
+        let missing = reads(
+            alloc,
+            &mut store,
+            (long.as_str(), 10_000),
+            Err(StoreFault::Failed),
+            0,
+        );
+        assert!(rt; missing && store.faults == 1);
         Ok(())
     }
 }
