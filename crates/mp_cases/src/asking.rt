@@ -1,6 +1,7 @@
 //! What the crates below the program answer.
 
 use crate::certificates::{checked, read_certificate, read_vector, weighed};
+use crate::delays::delayed;
 use crate::files::{Files, Stop, lines, word};
 use crate::networks::{network, shown};
 use crate::numbers::{bounds_under, drift_numbers, flow_pair, verdict, worths};
@@ -57,6 +58,7 @@ fn of_network(alloc: Global, command: &str, net: &Net, case: &str) -> Result<Str
         "flows" => Ok(flow_pair(alloc, net)?),
         "worths" => worths(alloc, net, case),
         "constants" => drift_numbers(alloc, net),
+        "delayed" => delayed(alloc, net, case),
         "bounds" => bounds_under(alloc, net, case),
         "rules" => checked(alloc, net, case),
         "weigh" => weighed(alloc, net, case),

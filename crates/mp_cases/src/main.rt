@@ -7,6 +7,7 @@
 mod asking;
 mod calls;
 mod certificates;
+mod delays;
 mod files;
 mod networks;
 mod numbers;
