@@ -1,7 +1,7 @@
 #!/usr/bin/env python3
 """Counts the definitions that stand under the clauses of `top`, for docs/theorem.md.
 
-    python3 docs/count-definitions.py                      how many under each clause, and in which crates
+    python3 docs/count-definitions.py                      how many under each clause, and for each command
     python3 docs/count-definitions.py CLAUSE..             the definitions under these clauses, file by file
     python3 docs/count-definitions.py CLAUSE.. --command Run      those that matter for one command
 
@@ -39,6 +39,7 @@ def pieces(lines):
     """The definitions of a file: name -> its signature and clauses, each with the lines indented below it."""
     found, name = {}, None
     for line in lines:
+        line = re.sub(r'"[^"]*"', "", line)
         if not line.strip() or line.startswith(("--", "use ", "pub mod ", "mod ")):
             continue
         if line[0].isspace():
@@ -51,79 +52,84 @@ def pieces(lines):
     return found
 
 
-def load():
+class Definitions:
     """Every definition of the repository: (module, name) -> (its pieces, the names and modules in scope)."""
-    every = {}
-    for path in sorted(CRATES.glob("*/specs/**/*.antt")):
-        lines = path.read_text().splitlines()
-        inside = path.relative_to(CRATES).with_suffix("")
-        module = ".".join(inside.parts)
-        names, modules = scope(lines)
-        own = pieces(lines)
-        names.update({name: (module, name) for name in own})
-        for name, parts in own.items():
-            every[(module, name)] = ([re.sub(r'"[^"]*"', "", part) for part in parts], names, modules)
-    return every
 
+    def __init__(self):
+        self.every, self.variants = {}, {}
+        for path in sorted(CRATES.glob("*/specs/**/*.antt")):
+            lines = path.read_text().splitlines()
+            module = ".".join(path.relative_to(CRATES).with_suffix("").parts)
+            names, modules = scope(lines)
+            for name, parts in pieces(lines).items():
+                names[name] = (module, name)
+                self.every[(module, name)] = (parts, names, modules)
+                for variant in re.findall(r"^  (\w+) :", parts[0], re.M) if "data " in parts[0].split(name)[0] else []:
+                    names[variant] = (module, variant)
+                    self.variants[(module, variant)] = (module, name)
 
-def owner(every, module, name):
-    """The definition behind a name: itself, the data type of a variant, or a type of the code."""
-    if (module, name) in every:
-        return (module, name)
-    parts = module.split(".")
-    if "declared" in parts:
-        types = [part for part in parts if part != "TheVariants"]
-        return (".".join(types[:-1]), types[-1])
-    above = (".".join(parts[:-1]), parts[-1])
-    return above if above in every else None
+    def owner(self, module, name):
+        """The definition behind a name: itself, the data type of a variant, or a type of the code."""
+        if (module, name) in self.every:
+            return (module, name)
+        if (module, name) in self.variants:
+            return self.variants[(module, name)]
+        parts = module.split(".")
+        if "declared" in parts:
+            types = [part for part in parts if part != "TheVariants"]
+            return (".".join(types[:-1]), types[-1])
+        above = (".".join(parts[:-1]), parts[-1])
+        return above if above in self.every else None
 
+    def is_command(self, place):
+        """A name stands for a variant of the type of commands."""
+        owner = self.owner(*place)
+        return owner is not None and owner[1] == "Command" and place[1] != "Command"
 
-def cited(every, text, names, modules):
-    """The definitions that a piece cites. A name that it binds hides one that was brought in."""
-    head, equals, body = text.partition(" =")
-    is_clause = equals and not SIGNATURE.match(text)
-    bound = set(re.findall(r"^\s+pub (\w+) :", text, re.M))
-    for group in re.findall(r"[({]([\w' ]+) : ", text) + re.findall(r"λ ([\w' ]+)\.", text):
-        bound.update(group.split())
-    bound.update(re.findall(r"\blet (\w+)", text))
-    if is_clause:
-        bound.update(word for word in WORD.findall(head) if word not in names or names[word][1][0].islower())
-        bound -= {word for word in bound if word in names and owner(every, *names[word]) != names[word]}
-    for word in WORD.findall(body if is_clause else text) + (WORD.findall(head)[1:] if is_clause else []):
-        first, _, rest = word.partition(".")
-        if first in modules and rest:
-            found = owner(every, modules[first], rest.split(".")[0])
-        elif first in names and first not in bound:
-            found = owner(every, *names[first])
-        else:
-            continue
-        if found:
-            yield found
+    def cited(self, text, names, modules):
+        """The definitions that a text cites. A name that it binds hides one that was brought in."""
+        bound = set(re.findall(r"^\s+pub (\w+) :", text, re.M)) | set(re.findall(r"\blet (\w+)", text))
+        for group in re.findall(r"[({]([\w' ]+) : ", text) + re.findall(r"λ ([\w' ]+)\.", text):
+            bound.update(group.split())
+        words = WORD.findall(text)
+        if not text[0].isspace() and not SIGNATURE.match(text):
+            head = WORD.findall(text.partition(" =")[0])
+            bound.update(word for word in head if word not in names or self.owner(*names[word]) == names[word])
+            words = words[1:]
+        for word in words:
+            first, _, rest = word.partition(".")
+            if first in modules and rest:
+                found = self.owner(modules[first], rest.split(".")[0])
+            elif first in names and first not in bound:
+                found = self.owner(*names[first])
+            else:
+                continue
+            if found:
+                yield found
 
+    def for_command(self, item, command):
+        """The pieces that matter for one command: of clauses that split by commands, its own or the others' rest."""
+        parts, names, _ = self.every.get(item, ([], {}, {}))
 
-def for_command(parts, names, command):
-    """The pieces that matter for one command: of clauses that split by commands, its own or the last."""
-    def commands(part):
-        head = WORD.findall(part.partition(" =")[0])[1:]
-        return {names[word][1] for word in head if word in names and "command.Command" in names[word][0]}
+        def commands(part):
+            head = WORD.findall(part.partition(" =")[0])[1:]
+            return {names[word][1] for word in head if word in names and self.is_command(names[word])}
 
-    clauses = [part for part in parts if not SIGNATURE.match(part)]
-    if not command or not any(map(commands, clauses)):
-        return parts
-    own = [part for part in clauses if command in commands(part)] or [part for part in clauses if not commands(part)]
-    return [part for part in parts if SIGNATURE.match(part)] + own
+        clauses = [part for part in parts if not SIGNATURE.match(part)]
+        if not command or not any(map(commands, clauses)):
+            return parts
+        own = [part for part in clauses if command in commands(part)] or [part for part in clauses if not commands(part)]
+        return [part for part in parts if SIGNATURE.match(part)] + own
 
-
-def under(every, roots, command):
-    seen, waiting = set(), list(roots)
-    while waiting:
-        item = waiting.pop()
-        if item not in seen:
-            seen.add(item)
-            parts, names, modules = every.get(item, ([], {}, {}))
-            for part in for_command(parts, names, command):
-                waiting += cited(every, part, names, modules)
-    return seen
+    def under(self, text, names, modules, command=None):
+        seen, waiting = set(), list(self.cited(" " + text, names, modules))
+        while waiting:
+            item = waiting.pop()
+            if item not in seen:
+                seen.add(item)
+                for part in self.for_command(item, command):
+                    waiting += self.cited(part, *self.every[item][1:])
+        return seen
 
 
 def main(arguments):
@@ -132,31 +138,27 @@ def main(arguments):
         at = arguments.index("--command")
         command = arguments[at + 1]
         arguments = arguments[:at]
-    every = load()
+    definitions = Definitions()
     lines = TOP.read_text().splitlines()
     names, modules = scope(lines)
     text = "\n".join(lines)
     text = text[text.index("pub fn top") :]
-    text = text[: text.index("\n{\n")]
-    clauses = dict(re.findall(r"ensures (\w+) \{(.*?)\}(?=\s*(?:ensures|//|$))", text, re.S))
-
-    def reached(clause, command):
-        return under(every, cited(every, clauses[clause], names, modules), command)
-
-    reach = {name: reached(name, command) for name in clauses}
+    text = text[: text.index("\n{\n")] + "\n"
+    clauses = dict(re.findall(r"ensures (\w+) \{(.*?)\}\n(?=\s*(?:ensures|//|$))", text, re.S))
     if arguments:
-        items = set().union(*(reach[name] for name in arguments))
+        items = set().union(*(definitions.under(clauses[name], names, modules, command) for name in arguments))
         for module in sorted({item[0] for item in items}):
             print(f"{module}: " + ", ".join(sorted(name for there, name in items if there == module)))
         print(len(items))
         return
-    for name, items in [*reach.items(), ("all", set().union(*reach.values()))]:
+    for name, clause in clauses.items():
+        items = definitions.under(clause, names, modules)
         crates = sorted({item[0].split(".")[0] for item in items})
         counts = [f"{crate} {sum(item[0].startswith(crate + '.') for item in items)}" for crate in crates]
         print(f"{name} {len(items)}: " + ", ".join(counts))
-    variants = {there for _, (_, names, _) in every.items() for module, there in names.values() if module.endswith("command.Command.TheVariants")}
-    for variant in sorted(variants - {"Unknown"}):
-        print(f"{variant}: " + ", ".join(f"{clause} {len(reached(clause, variant))}" for clause in ("done", "ends")))
+    for variant in "Run", "RunWith", "Show", "Certify", "Check", "Refute", "Audit", "Demo", "Scale":
+        counts = {name: len(definitions.under(clause, names, modules, variant)) for name, clause in clauses.items()}
+        print(f"{variant}: " + ", ".join(f"{name} {count}" for name, count in counts.items() if count > 20))
 
 
 main(sys.argv[1:])
