@@ -1,4 +1,4 @@
--- Where nothing is wrong outside, a command does what was asked, or memory was wanting.
+-- Where nothing is wrong outside, a command does what was asked, or memory ran out.
 use Rattle.std.proofs.Common.{◌≡◌, ◌≤◌, ◌<◌, ◌⊎◌, ◌+◌, ◌*◌, ◌++◌, ◌∷◌, ℕ, ℤ, List, [], length, refl, sym, ◌∙◌, ap, subst, arith, Some, Result, Ok, Err, inl, inr, ⊎_elim, IsSomeAnd}
 use Rattle.std.specs.declared.option.Option.{Option}
 use Rattle.std.specs.List.{AllByRecursion}
@@ -40,7 +40,7 @@ use Rattle.mp_cli.specs.Statuses.{status_of}
 use Rattle.mp_cli.specs.Verdicts.{numbers, IsUnadmitted, IsUnfinished, OfAdmitted}
 use Rattle.mp_cli.proofs.VectorLemmas.{no_sum}
 
--- a status, unless memory was wanting
+-- a status, unless memory ran out
 abbrev pub EndsIn : ℕ → Outcome → Type 0
 EndsIn n outcome = (status_of outcome ≡ n) ⊎ (status_of outcome ≡ 12)
 
@@ -50,7 +50,7 @@ pub record IsQuiet (outcome : Outcome) : Type 0 where
   pub read : status_of outcome ≡ 10 → ⊥
   pub write : status_of outcome ≡ 11 → ⊥
 
--- a command that is refused for want of memory alone goes on else
+-- a command that is refused since memory ran out alone goes on else
 goes : {R G : Type 0} {ports : Ports} (n : ℕ) (outcome : Outcome) → ((R × IsUntouched ports) ⊎ G) → (R → status_of outcome ≡ 12) → (G → EndsIn n outcome) → EndsIn n outcome
 goes n outcome (inl refused) memory then = inr (memory refused.0)
 goes n outcome (inr on) memory then = then on

@@ -22,7 +22,7 @@ pub record Reads {X E : Type 0} (meaning : List ℕ → Result X E) (files : Fil
   pub means : meaning bytes ≡ Ok value
   pub is : P value
 
--- A network is refused by the first rule that its file breaks, by a fault of the store, or for want of memory.
+-- A network is refused by the first rule that its file breaks, by a fault of the store, or since memory ran out.
 abbrev pub RefusesNetwork : Outcome → Files → List ℕ → Type 0
 RefusesNetwork (BadNetwork rule spot) files name = OfFile files name (λ bytes. file_meaning bytes ≡ Err (rule, spot))
 RefusesNetwork (Store file.Net) files name = Unit {0}
@@ -33,7 +33,7 @@ RefusesNetwork outcome files name = ⊥
 abbrev pub OnNetwork : Outcome → List ℕ → Ports → (Network → Type 0) → Type 0
 OnNetwork outcome name ports P = RefusedOr (RefusesNetwork outcome ports.files name) ports (Reads file_meaning ports.files name (λ net. IsAcceptable net × P net))
 
--- The other file is not read where it is longer than 1,048,576 bytes, by a fault of the store, or for want of memory.
+-- The other file is not read where it is longer than 1,048,576 bytes, by a fault of the store, or since memory ran out.
 abbrev pub IsUnread : Outcome → TextKind → Files → List ℕ → Type 0
 IsUnread (LongText is) kind files other = (is ≡ kind) × OfFile files other (λ bytes. 1048576 < length bytes)
 IsUnread (Store file.Other) kind files other = Unit {0}

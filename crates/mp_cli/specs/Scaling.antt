@@ -22,7 +22,7 @@ pub record OfScaled (net : Network) (d : ℕ) (P : Cert → Type 0) : Type 0 whe
   pub reached : scaled net d ≡ Found cert
   pub is : P cert
 
--- The search has no result: no certificate is over the denominator, a program exceeds 128 bits or comes to its limit of turns, a trial comes to its limit of sweeps, or memory was wanting.
+-- The search has no result: no certificate is over the denominator, a program exceeds 128 bits or comes to its limit of turns, a trial comes to its limit of sweeps, or memory ran out.
 abbrev pub IsUnscaled : Outcome → Network → ℕ → Type 0
 IsUnscaled NoCertificate net d = (scaled net d ≡ NoneAt) × HasNone net d
 IsUnscaled (Overflow (at.Game j)) net d = scaled net d ≡ search.PassesAt j

@@ -57,7 +57,7 @@ PassesUnder net at.Bound cert = IsUnbounded net cert PassesBound
 PassesUnder net at.Room cert = IsUnbounded net cert HasNoRoom
 PassesUnder net place cert = ⊥
 
--- No session is opened under a certificate that certifies: a calculation exceeds its limit, or memory was wanting.
+-- No session is opened under a certificate that certifies: a calculation exceeds its limit, or memory ran out.
 abbrev pub IsUnopened : Outcome → Network → Cert → Type 0
 IsUnopened (Overflow place) net cert = PassesUnder net place cert
 IsUnopened NoMemory net cert = Unit {0}

@@ -13,6 +13,6 @@ pub record ShowsText (outcome : Outcome) (net : Network) (ports : Ports) : Type 
   pub means : text_meaning text ≡ Ok net
   pub answers : Answers outcome ports text
 
--- This is what each outcome says of `show`: on the network of the file, a text of it was put, or memory was wanting.
+-- This is what each outcome says of `show`: on the network of the file, a text of it was put, or memory ran out.
 abbrev pub Shows : Outcome → List ℕ → Ports → Type 0
 Shows outcome name ports = OnNetwork outcome name ports (λ net. RefusedOr (outcome ≡ NoMemory) ports (ShowsText outcome net ports))

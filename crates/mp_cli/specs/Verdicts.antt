@@ -32,7 +32,7 @@ pub record IsShownOverloaded (net : Network) (vector : List ℤ) : Type 0 where
   pub shows : ShowsOverload net (numbers vector)
   pub none : ¬ Carries net
 
--- The stated calculation has no verdict: it exceeds 128 bits or comes to its limit of turns, or memory was wanting.
+-- The stated calculation has no verdict: it exceeds 128 bits or comes to its limit of turns, or memory ran out.
 abbrev pub IsUnfinished : Outcome → Network → Type 0
 IsUnfinished (Overflow place) net = verdict net (weighed net) ≡ PassesAt place
 IsUnfinished (PivotLimit j) net = verdict net (weighed net) ≡ LimitAt j

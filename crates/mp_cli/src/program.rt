@@ -68,8 +68,8 @@ fn obey<St: Store, In: Source, Out: Sink>(
 /// and where no certificate has the denominator, 5 for a calculation that exceeds 128 bits or a bound
 /// without room, 6 for the limit of turns at a junction, 7 for the first line of the stream that is too
 /// long or not in the grammar, 8 for the first period of the stream in which some link does not keep to
-/// its bucket, 9 for more than 2^48 lines, 10 for a fault of the input, 11 for one of the output, 12 for
-/// want of memory, which comes before the first byte is put, 13 for the first line that differs from a
+/// its bucket, 9 for more than 2^48 lines, 10 for a fault of the input, 11 for one of the output, 12 where
+/// memory ran out, which comes before the first byte is put, 13 for the first line that differs from a
 /// log, and 15 for the limit of sweeps.
 ///
 /// Refusals come in the order of the layers: the network file, the other file, the verdict, the check of
@@ -100,7 +100,7 @@ pub fn top<St: Store, In: Source, Out: Sink, Er: Sink>(
     ensures read { result ≡ 10 → Rose (In.faults input.old) (In.faults input.new) }
     ensures write { result ≡ 11 → Rose (Out.faults out.old) (Out.faults out.new) }
 
-    // Where nothing is wrong with what was given or outside, all is done, or memory was wanting.
+    // Where nothing is wrong with what was given or outside, all is done, or memory ran out.
     ensures complete { IsGood (command_of (map string_bytes words.now)) (St.files store.old) (In.left input.old) →
         ¬ Rose (St.faults store.old) (St.faults store.new) → ¬ Rose (In.faults input.old) (In.faults input.new) → ¬ Rose (Out.faults out.old) (Out.faults out.new) →
         (result ≡ 0) ⊎ (result ≡ 12) }

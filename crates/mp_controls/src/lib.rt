@@ -1,5 +1,5 @@
 //! Controls of the laws: each is a function with an empty body whose contract says that a sharper
-//! form of a law is false, or how far a law can be sharpened. `docs/model.md` lists them by law.
+//! form of a law is false, or how far a law can be sharpened. `docs/controls.md` lists them by law.
 #![tactic(auto)]
 
 ghost use Rattle.mp_controls.specs.Drift.{DriftBelowLaw, NotOfNoMovement, NotTwoBelow};

@@ -59,7 +59,7 @@ pub record IsUnbounded (net : Network) (cert : Cert) (IsSo : Network → ℕ →
 abbrev pub PassesBound : Network → ℕ → ℕ → Type 0
 PassesBound net E D = stated_greatest net E D ≡ None
 
--- A session is not opened where the check refuses the certificate, where it accepts it and the bounds of its slack exceed 128 bits or have no room, or for want of memory.
+-- A session is not opened where the check refuses the certificate, where it accepts it and the bounds of its slack exceed 128 bits or have no room, or since memory ran out.
 abbrev pub IsRefused : Network → Cert → OpenFault → Type 0
 IsRefused net cert (RefusesCert fault) = check_outcome net cert ≡ Err fault
 IsRefused net cert (Calc (Overflow Bound)) = IsUnbounded net cert PassesBound
@@ -67,7 +67,7 @@ IsRefused net cert (Calc (Overflow Room)) = IsUnbounded net cert HasNoRoom
 IsRefused net cert (Calc fault) = ⊥
 IsRefused net cert NoMemory = Unit {0}
 
--- A fault of the bounds refuses the opening, where want of memory stands alone.
+-- A fault of the bounds refuses the opening, where out of memory stands alone.
 abbrev pub open_fault : CalcFault → OpenFault
 open_fault calc.NoMemory = NoMemory
 open_fault fault = Calc fault

@@ -1,9 +1,9 @@
--- The greatest drift value as a stated calculation: each operation gives its number, or nothing where it passes 128 signed bits. The root of the greatest drift value plus a credit-and-burst term never passes them.
+-- The greatest drift value as a stated calculation: each operation gives its number, or nothing where it exceeds 128 signed bits. The root of the greatest drift value plus a credit-and-burst term never passes them.
 use Rattle.std.specs.Prelude.{ℕ, ◌+◌, ◌*◌, ◌/◌, ◌^◌, max, nat_lt, if◌then◌else◌, sum_by, Option, Some, None, option_map, option_and_then}
 use Rattle.mp_model.specs.Network.{Network, movement_numbers}
 use Rattle.mp_model.specs.Bounds.{credit_term, drift_constant, start_drift}
 
--- This is a number where it fits 128 signed bits, and nothing where it passes them.
+-- This is a number where it fits 128 signed bits, and nothing where it exceeds them.
 unfoldable pub fitting : ℕ → Option ℕ
 fitting n = if nat_lt n (2 ^ 127) then Some n else None
 
@@ -24,7 +24,7 @@ unfoldable pub greatest_from : ℕ → ℕ → ℕ → ℕ → ℕ → Option �
 greatest_from unit credits drift starts threshold =
     option_and_then (λ few. option_and_then (λ root. option_and_then (λ square. option_map (λ v. max v starts) (fitting (square + drift))) (fitting (root * root))) (fitting (few + credits))) (fitting (unit * threshold))
 
--- This is the greatest drift value of a network under the slack E/D by the stated calculation, and nothing where it passes 128 bits.
+-- This is the greatest drift value of a network under the slack E/D by the stated calculation, and nothing where it exceeds 128 bits.
 abbrev pub stated_greatest : Network → ℕ → ℕ → Option ℕ
 stated_greatest net E D =
     option_and_then (greatest_from (unit_of net) (credit_sum net) (drift_constant net) (start_drift net)) (threshold_from (unit_of net) (drift_constant net) E D)

@@ -80,7 +80,7 @@ fn credit_sum(net: &Net, k: &[i128]) -> u128
     sum
 }
 
-/// The queue threshold under the slack `num` / `den`, or `None` where the calculation passes 128 bits.
+/// The queue threshold under the slack `num` / `den`, or `None` where the calculation exceeds 128 bits.
 #[tactic(auto, using(crate::proofs::Fitting::fitting_is), unfolding(crate::specs::Stated::threshold_from))]
 fn threshold(unit: u128, drift: u128, num: u128, den: u128) -> Option<u128>
     requires unit { (1 ≤ unit) × (unit ≤ 3600000) }
@@ -118,7 +118,7 @@ fn start_drift(net: &Net) -> u128
     sum
 }
 
-/// The greatest drift value at a threshold, or `None` where the calculation passes 128 bits.
+/// The greatest drift value at a threshold, or `None` where the calculation exceeds 128 bits.
 #[tactic(auto, using(crate::proofs::Fitting::fitting_is), unfolding(crate::specs::Stated::greatest_from))]
 fn greatest(unit: u128, credits: u128, drift: u128, starts: u128, threshold: u128) -> Option<u128>
     requires unit { unit ≤ 3600000 }
@@ -142,7 +142,7 @@ struct Reached {
     vmax: u128,
 }
 
-/// The queue threshold and the greatest drift value under a slack, or `None` where the calculation passes 128 bits.
+/// The queue threshold and the greatest drift value under a slack, or `None` where the calculation exceeds 128 bits.
 #[tactic(auto, using(crate::proofs::Finding::found))]
 fn greatest_of(net: &Net, constants: &DriftNumbers, slack: &Frac) -> Option<Reached>
     requires constants { AreConstants net.now constants.now }
@@ -183,7 +183,7 @@ fn has_room(bounds: &[i128]) -> bool
 
 /// The bound of every queue under a slack above 0, from the constants of the network.
 ///
-/// `Overflow(Place::Bound)` comes exactly where the stated calculation passes 128 bits, and `Overflow(Place::Room)` exactly where it doesn't and a bound is above 2^62.
+/// `Overflow(Place::Bound)` comes exactly where the stated calculation exceeds 128 bits, and `Overflow(Place::Room)` exactly where it doesn't and a bound is above 2^62.
 pub fn bounds(
     alloc: Global,
     net: &Net,

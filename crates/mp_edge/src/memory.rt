@@ -7,7 +7,7 @@ use crate::{Failed, Sink, Source, Store, StoreFault};
 use std::alloc::{AllocError, Global};
 use std::marker::Model;
 
-/// The want of memory for an object in memory.
+/// That memory ran out for an object in memory.
 #[derive(Clone, Copy, Debug, PartialEq, Eq)]
 pub struct NoMemory;
 

@@ -36,7 +36,7 @@ impl Model for Splitter {
 
 impl Splitter {
     /// A splitter of these shares, one per movement out of a link in movement order, where no
-    /// vehicle has joined yet. `NoMemory` comes only for want of memory.
+    /// vehicle has joined yet. `NoMemory` comes only where memory runs out.
     pub fn new(alloc: Global, shares: &[u32]) -> Result<Splitter, NoMemory>
         requires some { 1 ≤ length shares.now }
         requires each { All (λ w. 1 ≤ w) shares.now }

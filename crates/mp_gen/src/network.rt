@@ -193,7 +193,7 @@ fn road_junctions(alloc: Global, count: u16) -> Result<Vec<JunctionPart>, NoMemo
 }
 
 /// The demonstration network of this number: a main road through 2 to 4 junctions, with a side road
-/// into each. `NoMemory` comes only for want of memory.
+/// into each. `NoMemory` comes only where memory runs out.
 pub fn demo_net(alloc: Global, n: u64) -> Result<Net, NoMemory>
     ensures { IfOk result (λ net. net ≡ demo_network n) }
 {

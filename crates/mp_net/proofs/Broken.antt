@@ -82,7 +82,7 @@ pub on_ok : (r : Result (Unit {0}) NetFault) (P Q : Type 0) → (P → Q) → On
 on_ok (Ok v) P Q f h = f h
 on_ok (Err e) P Q f h = tt
 
--- where no rule is broken, only want of memory refuses
+-- where no rule is broken, only a lack of memory refuses
 pub not_by_rule : (r : Result (Unit {0}) NetFault) (broken : Option (NetRule × Spot)) → IfErr r (IsFirst broken) → broken ≡ None → IsOkUnless r NoMemory
 not_by_rule (Ok v) broken h none = tt
 not_by_rule (Err (Rule name spot)) broken h none = absurd (cc)

@@ -5,7 +5,7 @@ use Rattle.mp_net.specs.declared.fault.NetFault.TheVariants.{Rule, NoMemory}
 use Rattle.mp_net.specs.declared.fault.NetRule.{NetRule}
 use Rattle.mp_net.specs.declared.fault.Spot.{Spot}
 
--- The fault names the first rule that is broken with its first spot, or is want of memory.
+-- The fault names the first rule that is broken with its first spot, or is out of memory.
 abbrev pub IsFirst : Option (NetRule × Spot) → NetFault → Type 0
 IsFirst broken (Rule rule spot) = broken ≡ Some (rule, spot)
 IsFirst broken NoMemory = Unit {0}

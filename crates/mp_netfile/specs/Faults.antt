@@ -8,7 +8,7 @@ use Rattle.mp_net.specs.declared.fault.NetRule.{NetRule}
 use Rattle.mp_net.specs.declared.fault.Spot.{Spot}
 use Rattle.mp_tree.specs.Tree.{section}
 
--- A fault names the rule and the spot of the file's meaning, or is want of memory.
+-- A fault names the rule and the spot of the file's meaning, or is out of memory.
 abbrev pub IsFaultOf : Result Network (NetRule × Spot) → NetFault → Type 0
 IsFaultOf meaning (Rule rule spot) = meaning ≡ Err (rule, spot)
 IsFaultOf meaning NoMemory = Unit {0}

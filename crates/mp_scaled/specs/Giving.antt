@@ -11,7 +11,7 @@ use Rattle.mp_trial.specs.Search.{Scaled, Found, NoneAt, SweepsAt, PassesAt, Lim
 use Rattle.mp_scaled.specs.declared.fault.ScaleFault.{ScaleFault}
 use Rattle.mp_scaled.specs.declared.fault.ScaleFault.TheVariants as fault
 
--- A result gives what a search states: its certificate, none, or the trial or junction that ends it; want of memory says nothing.
+-- A result gives what a search states: its certificate, none, or the trial or junction that ends it; out of memory says nothing.
 abbrev pub GivesScaled : Result (Option Cert) ScaleFault → Scaled → Type 0
 GivesScaled (Ok (Some cert)) stated = stated ≡ Found (cert_of cert)
 GivesScaled (Ok None) stated = stated ≡ NoneAt

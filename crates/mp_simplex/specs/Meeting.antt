@@ -19,7 +19,7 @@ pub record HasSizes (lp : Lp) : Type 0 where
 pub record BeginsAtZero (lp : Lp) : Type 0 where
   pub at : (i : ℕ) → i < lp.rows → pos 0 ≤ℤ entry lp.b i
 
--- A result meets an outcome where it says the same; want of memory says nothing.
+-- A result meets an outcome where it says the same; out of memory says nothing.
 abbrev pub Meets : Result Optimum LpFault → Outcome → Type 0
 Meets (Ok optimum) outcome = outcome ≡ Optimal optimum
 Meets (Err (Unbounded ray)) outcome = outcome ≡ Ray ray

@@ -65,7 +65,7 @@ impl Model for State {
 impl State {
     /// The opening of a run: period 0, the start queues, which count as entered, nothing received, and each
     /// bucket empty.
-    /// `NoMemory` comes only for want of memory.
+    /// `NoMemory` comes only where memory runs out.
     pub fn empty(alloc: Global, net: &Net) -> Result<State, NoMemory>
         ensures on { IfOk result (λ s. IsOn net.now s) }
         ensures opening { IfOk result (λ s. Stands net.now s (opening net.now)) }

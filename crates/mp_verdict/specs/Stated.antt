@@ -31,7 +31,7 @@ unfoldable pub each_reached : {X Y : Type 0} → (X → Stated Y) → List X →
 each_reached f [] = Reached []
 each_reached f (x ∷ xs) = then (f x) (λ y. then (each_reached f xs) (λ ys. Reached (y ∷ ys)))
 
--- A result gives what a calculation states: the value, its place where it exceeds 128 bits, or its junction at the limit of turns; want of memory says nothing.
+-- A result gives what a calculation states: the value, its place where it exceeds 128 bits, or its junction at the limit of turns; out of memory says nothing.
 abbrev pub Gives : {X Y : Type 0} → (X → Y) → Result X CalcFault → Stated Y → Type 0
 Gives seen (Ok x) stated = stated ≡ Reached (seen x)
 Gives seen (Err (Calculating.Overflow place)) stated = stated ≡ PassesAt place
