@@ -33,7 +33,7 @@ for edit in "$here"/sharper/*.edit; do
             chomp;
             if (s/^file: //) { finish(); $file = $_; open(my $f, "<", $file) or die; local $/; $text = <$f>; }
             elsif (s/^old: //) { $old = $_; }
-            elsif (s/^new: ?//) { my $n = () = $text =~ /\Q$old\E/g; die "$ARGV[0]: stands $n times: $old\n" if $n != 1; my $new = $_; $text =~ s/\Q$old\E/$new/; }
+            elsif (s/^new: ?//) { my $n = () = $text =~ /\Q$old\E/g; die "$ARGV[0]: stands nowhere: $old\n" if $n == 0; my $new = $_; $text =~ s/\Q$old\E/$new/g; }
         }
         finish();' "$edit" || exit 1
     rt check --only "$law" > "$copy/log" 2>&1
