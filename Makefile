@@ -12,12 +12,12 @@ help: ## list these targets
 run: ## run two examples: with ./maxpressure where it is built, else at once as an unproved trial
 	@bash examples/run.sh
 
-build: ## prove the program and build ./maxpressure (from nothing about 40 minutes on 4 processors)
-	@echo "Proving and building: about 40 minutes on 4 processors from nothing, else what has changed."
+build: ## prove the program and build ./maxpressure (from nothing about half an hour on 4 processors)
+	@echo "Proving and building: about half an hour on 4 processors from nothing, else what has changed."
 	cd crates/maxpressure && rt run -- show ../../examples/two-links.toml > /dev/null
 	install -m 755 crates/maxpressure/out/maxpressure maxpressure
 
-test: ## the gate: proofs, wrong bodies, tests, runs, documents (from nothing 1 to 2 hours)
+test: ## the gate: proofs, wrong bodies, tests, runs, documents (from nothing 35 minutes on 4 processors)
 	bash .ci/run
 
 docs: maxpressure ## compare each output in the documents with what ./maxpressure prints
@@ -29,7 +29,7 @@ tools-test: ## test the Python tools in tools/
 bench: ## time ./maxpressure beside plain Rust, and print the table of docs/speed.md
 	bash bench/run.sh
 
-controls: ## check that each law is refused where it is sharpened (10 minutes; not in the gate)
+controls: ## check that each law is refused where it is sharpened (3 minutes; not in the gate)
 	sh crates/mp_controls/sharper.sh
 
 fmt: ## lay out the sources of all crates
