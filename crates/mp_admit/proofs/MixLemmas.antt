@@ -16,7 +16,7 @@ use Rattle.mp_simplex.specs.declared.Optimum.{Optimum}
 use Rattle.mp_simplex.specs.Outcome.{maximised}
 use Rattle.mp_verdict.specs.Rates.{Rates, rates_at, rates_in}
 use Rattle.mp_verdict.specs.Program.{program, optimum_at}
-use Rattle.mp_verdict.specs.Game.{turn_limit}
+use Rattle.mp_verdict.specs.declared.TheConstants.{TURN_LIMIT}
 use Rattle.mp_verdict.specs.Mixes as stated
 use Rattle.mp_verdict.specs.Mixes.{mixed, mixes, certificate_of, certificate_at}
 use Rattle.mp_verdict.specs.Stated.{Stated, Reached, at_place, then, each_reached, Gives}
@@ -25,13 +25,13 @@ use Rattle.mp_admit.proofs.FaultLemmas.{fault_then}
 use Rattle.mp_admit.proofs.PushLemmas.{number_at}
 
 -- ---- one mix
-pub mixed_to : (net : Network) (row : List ℤ) (j : ℕ) (o : Optimum) → optimum_at (Place.Mix j) j (maximised (program net (junction_at net j) (drop 2 row)) turn_limit) ≡ Reached o → mixed net (rates_in row) j ≡ Reached (stated.mix_of o)
+pub mixed_to : (net : Network) (row : List ℤ) (j : ℕ) (o : Optimum) → optimum_at (Place.Mix j) j (maximised (program net (junction_at net j) (drop 2 row)) TURN_LIMIT) ≡ Reached o → mixed net (rates_in row) j ≡ Reached (stated.mix_of o)
 unfolding mixed
 mixed_to net row j o e = rw e refl
 
-pub mixed_refused : {X X' : Type 0} (seen : X → Optimum) (seen' : X' → model.Mix) (net : Network) (row : List ℤ) (j : ℕ) (fault : CalcFault) → Gives seen (Err fault) (optimum_at (Place.Mix j) j (maximised (program net (junction_at net j) (drop 2 row)) turn_limit)) → Gives seen' (Err fault) (mixed net (rates_in row) j)
+pub mixed_refused : {X X' : Type 0} (seen : X → Optimum) (seen' : X' → model.Mix) (net : Network) (row : List ℤ) (j : ℕ) (fault : CalcFault) → Gives seen (Err fault) (optimum_at (Place.Mix j) j (maximised (program net (junction_at net j) (drop 2 row)) TURN_LIMIT)) → Gives seen' (Err fault) (mixed net (rates_in row) j)
 unfolding mixed
-mixed_refused seen seen' net row j fault g = fault_then seen seen' fault (optimum_at (Place.Mix j) j (maximised (program net (junction_at net j) (drop 2 row)) turn_limit)) _ _ refl g
+mixed_refused seen seen' net row j fault g = fault_then seen seen' fault (optimum_at (Place.Mix j) j (maximised (program net (junction_at net j) (drop 2 row)) TURN_LIMIT)) _ _ refl g
 
 -- ---- all mixes
 abbrev pub behind : List model.Mix → Stated (List model.Mix) → Stated (List model.Mix)

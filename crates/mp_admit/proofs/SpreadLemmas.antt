@@ -2,7 +2,7 @@
 use Rattle.std.proofs.Common.{to_z-of_z, ◌≡◌, ◌≢◌, ◌==◌, ℕ, ◌+◌, ◌-◌, ◌<◌, ◌≤◌, Bool, true, false, cond, List, [], ◌∷◌, ◌++◌, drop, get_or, length, ℤ, pos, Option, Some, None, IfSome, option_and_then, refl, ap, sym, ◌∙◌, subst, arith}
 use Rattle.std.proofs.lemmas.Bool.{eqb-true, eqb-false}
 use Rattle.std.proofs.lemmas.List.{drop_all, drop_more}
-use Rattle.mp_num.specs.Passing.{run}
+use Rattle.mp_num.specs.Passing.{stepped}
 use Rattle.mp_model.specs.Network.{Network, movement_numbers, link_numbers, out_of, share_of, to_of, has}
 use Rattle.mp_model.specs.NetworkRules.{IsNetwork}
 use Rattle.mp_model.specs.Certificate.{int_entry}
@@ -48,24 +48,24 @@ pub ruleset adding = (to_z-of_z)
 
 -- ---- what the values bring to a link
 pub record Bringing (term : ℕ → Option ℤ) (ks : List ℕ) (i : ℕ) (sum : ℤ) : Type 0 where
-  pub rest : summed term ks ≡ run (added term) sum (drop i ks)
+  pub rest : summed term ks ≡ stepped (added term) sum (drop i ks)
 
 pub bringing_start : (term : ℕ → Option ℤ) (ks : List ℕ) → Bringing term ks 0 (pos 0)
 unfolding summed
 bringing_start term ks = record { rest = refl }
 
-run_at : (term : ℕ → Option ℤ) (sum : ℤ) (ks : List ℕ) (i : ℕ) → i < length ks → run (added term) sum (drop i ks) ≡ option_and_then (λ t. run (added term) t (drop (i + 1) ks)) (plus (Some sum) (term (get_or ks i 0)))
-unfolding run
+run_at : (term : ℕ → Option ℤ) (sum : ℤ) (ks : List ℕ) (i : ℕ) → i < length ks → stepped (added term) sum (drop i ks) ≡ option_and_then (λ t. stepped (added term) t (drop (i + 1) ks)) (plus (Some sum) (term (get_or ks i 0)))
+unfolding stepped
 run_at term sum ks i h = rw (drop_more ks i 0 h) refl
 
 pub bringing_more : (term : ℕ → Option ℤ) (ks : List ℕ) (i : ℕ) (sum next n : ℤ) → n ≡ next → Bringing term ks i sum → i < length ks → plus (Some sum) (term (get_or ks i 0)) ≡ Some next → Bringing term ks (i + 1) n
-bringing_more term ks i sum next n w s h e = record { rest = s.rest ∙ run_at term sum ks i h ∙ ap (option_and_then (λ t. run (added term) t (drop (i + 1) ks))) (e ∙ ap Some (sym w)) }
+bringing_more term ks i sum next n w s h e = record { rest = s.rest ∙ run_at term sum ks i h ∙ ap (option_and_then (λ t. stepped (added term) t (drop (i + 1) ks))) (e ∙ ap Some (sym w)) }
 
 pub bringing_fails : (term : ℕ → Option ℤ) (ks : List ℕ) (i : ℕ) (sum : ℤ) → Bringing term ks i sum → i < length ks → plus (Some sum) (term (get_or ks i 0)) ≡ None → summed term ks ≡ None
-bringing_fails term ks i sum s h e = s.rest ∙ run_at term sum ks i h ∙ ap (option_and_then (λ t. run (added term) t (drop (i + 1) ks))) e
+bringing_fails term ks i sum s h e = s.rest ∙ run_at term sum ks i h ∙ ap (option_and_then (λ t. stepped (added term) t (drop (i + 1) ks))) e
 
 pub bringing_end : (term : ℕ → Option ℤ) (ks : List ℕ) (i : ℕ) (sum : ℤ) → Bringing term ks i sum → length ks ≤ i → summed term ks ≡ Some sum
-unfolding run
+unfolding stepped
 bringing_end term ks i sum s h = s.rest ∙ rw (drop_all i ks h) refl
 
 pub link_fails : (net : Network) (values : List ℤ) (l : ℕ) (ks : List ℕ) (i : ℕ) (sum : ℤ) → Bringing (λ k. times (num (share_of net k)) (Some (int_entry values k))) ks i sum → ks ≡ out_of net l → i < length ks →

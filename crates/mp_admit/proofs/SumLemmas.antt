@@ -11,7 +11,7 @@ use Rattle.mp_flow.specs.Systems.{Flows, AreFlows}
 use Rattle.mp_num.specs.Operations.{times, plus, num}
 use Rattle.mp_verdict.specs.Game.{summed_beside}
 use Rattle.mp_verdict.specs.Rates.{unit_need}
-use Rattle.mp_admit.specs.Standings.{AreValues, AskSome}
+use Rattle.mp_admit.specs.Scores.{AreValues, AskSome}
 use Rattle.mp_admit.proofs.TermLemmas.{among}
 use Rattle.mp_admit.proofs.RowLemmas.{own_known}
 use Rattle.mp_admit.proofs.SlackLemmas.{factors, summands, some_injective, product_least, unit_positive, over_positive}

@@ -22,7 +22,7 @@ use Rattle.mp_verdict.specs.Rates.{Rates, rates_at}
 use Rattle.mp_verdict.specs.Program.{program, optimum_at}
 use Rattle.mp_verdict.specs.Game.{Turn, Carried, Lowered, is_over, slack_of, spent, lowered, by_value, turn}
 use Rattle.mp_verdict.specs.Stated.{Stated, Reached, PassesAt, LimitAt, at_place, then, Gives}
-use Rattle.mp_admit.specs.Standings.{AreValues, AskSome}
+use Rattle.mp_admit.specs.Scores.{AreValues, AskSome}
 use Rattle.mp_admit.proofs.FaultLemmas.{fault_then}
 use Rattle.mp_admit.proofs.SlackLemmas.{product_sign, product_positive}
 

@@ -13,14 +13,14 @@ use Rattle.mp_flow.specs.Calculating.{worths_of}
 use Rattle.mp_flow.specs.Calculating as flow
 use Rattle.mp_flow.specs.declared.network.Place.{Place}
 use Rattle.mp_flow.specs.declared.network.CalcFault.{CalcFault}
-use Rattle.mp_verdict.specs.Game.{Standing}
+use Rattle.mp_verdict.specs.Game.{Score}
 use Rattle.mp_verdict.specs.Vector.{value_beside, spread, link_values, vector_entry, vector_by, vector_of}
 use Rattle.mp_verdict.specs.Stated.{Reached, at_place, Gives}
 use Rattle.mp_verdict.specs.Laws.{IsNatural}
 use Rattle.mp_verdict.proofs.Handing.{brought_shape}
 use Rattle.mp_verdict.proofs.VectorOf.{vector_is}
-use Rattle.mp_admit.specs.declared.standing.Standing.{Standing as Kept}
-use Rattle.mp_admit.specs.Standings.{standing_of, StandsIn}
+use Rattle.mp_admit.specs.declared.score.Score.{Score as Kept}
+use Rattle.mp_admit.specs.Scores.{score_of, StandsIn}
 use Rattle.mp_admit.specs.Spreads.{vector_from, BringSigned}
 use Rattle.mp_admit.proofs.FaultLemmas.{fault_kept}
 
@@ -55,34 +55,34 @@ pub vector_reached : (net : Network) (values u v row out : List ℤ) (worths : W
 vector_reached net values u v row out worths e s w r o =
     ap (at_place Place.Adjoint) (from_worths net values u v worths e s w ∙ ap (option_map reduced) (reached_some Place.Adjoint (each (vector_entry net values worths) (movement_numbers net)) row r)) ∙ ap Reached (sym o)
 
--- ---- the vector of a standing
+-- ---- the vector of a score
 all_by : (zs : List ℤ) → All (λ z. pos 0 ≤ℤ z) zs → AllByRecursion (λ z. pos 0 ≤ℤ z) zs
 all_by [] h = tt
 all_by (z ∷ zs) h = (h 0 (pos 0) (omega arith), all_by zs (λ k u l. h (suc k) u (omega arith)))
 
-pub spread_brings : (net : Network) (kept : Kept) (values : List ℤ) → IsNetwork net → StandsIn net kept → values ≡ spread net (standing_of kept) → BringSigned net values
+pub spread_brings : (net : Network) (kept : Kept) (values : List ℤ) → IsNetwork net → StandsIn net kept → values ≡ spread net (score_of kept) → BringSigned net values
 spread_brings net kept values ok s e = record {
-  shape = λ u h. brought_shape net ok (standing_of kept) (all_by kept.values s.values.sign) u (ap (link_values net) (sym e) ∙ h);
+  shape = λ u h. brought_shape net ok (score_of kept) (all_by kept.values s.values.sign) u (ap (link_values net) (sym e) ∙ h);
 }
 
-pub length-spread : (net : Network) (kept : Kept) (values : List ℤ) → values ≡ spread net (standing_of kept) → length values ≡ length net.movements
+pub length-spread : (net : Network) (kept : Kept) (values : List ℤ) → values ≡ spread net (score_of kept) → length values ≡ length net.movements
 unfolding spread
 length-spread net kept values e = ap length e ∙ length-map (movement_numbers net) (value_beside (own net (junction_at net kept.junction)) kept.values) ∙ length-range_with_len 1 (length net.movements)
 
-of_from : (net : Network) (standing : Standing) (values : List ℤ) → values ≡ spread net standing → vector_from net values ≡ vector_of net standing
+of_from : (net : Network) (score : Score) (values : List ℤ) → values ≡ spread net score → vector_from net values ≡ vector_of net score
 unfolding vector_from vector_of
-of_from net standing values e = rw e refl
+of_from net score values e = rw e refl
 
-pub vector_found : (net : Network) (kept : Kept) (values p q : List ℤ) → values ≡ spread net (standing_of kept) → at_place Place.Adjoint (vector_from net values) ≡ Reached p → q ≡ p → at_place Place.Adjoint (vector_of net (standing_of kept)) ≡ Reached q
-vector_found net kept values p q e r s = ap (at_place Place.Adjoint) (sym (of_from net (standing_of kept) values e)) ∙ r ∙ ap Reached (sym s)
+pub vector_found : (net : Network) (kept : Kept) (values p q : List ℤ) → values ≡ spread net (score_of kept) → at_place Place.Adjoint (vector_from net values) ≡ Reached p → q ≡ p → at_place Place.Adjoint (vector_of net (score_of kept)) ≡ Reached q
+vector_found net kept values p q e r s = ap (at_place Place.Adjoint) (sym (of_from net (score_of kept) values e)) ∙ r ∙ ap Reached (sym s)
 
-pub vector_refused : {X X' : Type 0} (seen : X → List ℤ) (seen' : X' → List ℤ) (net : Network) (kept : Kept) (values : List ℤ) (fault : CalcFault) → values ≡ spread net (standing_of kept) → Gives seen (Err fault) (at_place Place.Adjoint (vector_from net values)) → Gives seen' (Err fault) (at_place Place.Adjoint (vector_of net (standing_of kept)))
-vector_refused seen seen' net kept values fault e g = fault_kept seen seen' Place.Adjoint fault (vector_from net values) (vector_of net (standing_of kept)) (λ n. sym (of_from net (standing_of kept) values e) ∙ n) g
+pub vector_refused : {X X' : Type 0} (seen : X → List ℤ) (seen' : X' → List ℤ) (net : Network) (kept : Kept) (values : List ℤ) (fault : CalcFault) → values ≡ spread net (score_of kept) → Gives seen (Err fault) (at_place Place.Adjoint (vector_from net values)) → Gives seen' (Err fault) (at_place Place.Adjoint (vector_of net (score_of kept)))
+vector_refused seen seen' net kept values fault e g = fault_kept seen seen' Place.Adjoint fault (vector_from net values) (vector_of net (score_of kept)) (λ n. sym (of_from net (score_of kept) values e) ∙ n) g
 
-pub vector_natural : (net : Network) (kept : Kept) (values p q : List ℤ) → IsNetwork net → StandsIn net kept → values ≡ spread net (standing_of kept) → at_place Place.Adjoint (vector_from net values) ≡ Reached p → q ≡ p → IsNatural net q
+pub vector_natural : (net : Network) (kept : Kept) (values p q : List ℤ) → IsNetwork net → StandsIn net kept → values ≡ spread net (score_of kept) → at_place Place.Adjoint (vector_from net values) ≡ Reached p → q ≡ p → IsNatural net q
 vector_natural net kept values p q ok s e r same =
-    let v : vector_of net (standing_of kept) ≡ Some q = sym (of_from net (standing_of kept) values e) ∙ reached_some Place.Adjoint (vector_from net values) p r ∙ ap Some (sym same) in
-    let i = vector_is net ok (standing_of kept) (all_by kept.values s.values.sign) q v in
+    let v : vector_of net (score_of kept) ≡ Some q = sym (of_from net (score_of kept) values e) ∙ reached_some Place.Adjoint (vector_from net values) p r ∙ ap Some (sym same) in
+    let i = vector_is net ok (score_of kept) (all_by kept.values s.values.sign) q v in
     record { lengths = i.count; signs = All-from_recursion (λ v. pos 0 ≤ℤ v) q i.signs }
 
 pub ruleset vectors = (to_z-of_z, spread_brings, length-spread, vector_reached, vector_found, vector_natural)

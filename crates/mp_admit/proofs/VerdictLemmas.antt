@@ -11,17 +11,17 @@ use Rattle.mp_flow.specs.Calculating as flow
 use Rattle.mp_flow.specs.Calculating.{flows_of}
 use Rattle.mp_flow.specs.declared.network.Place.{Place}
 use Rattle.mp_flow.specs.declared.network.CalcFault.{CalcFault}
-use Rattle.mp_verdict.specs.Game.{Standing, game}
+use Rattle.mp_verdict.specs.Game.{Score, game}
 use Rattle.mp_verdict.specs.Vector.{vector_of}
 use Rattle.mp_verdict.specs.Mixes.{certificate_at}
 use Rattle.mp_verdict.specs.Verdict.{Verdict, Admitted, Critical, Overloaded, judged, verdict_after, verdict}
 use Rattle.mp_verdict.specs.Stated.{Reached, PassesAt, at_place, then, Gives}
 use Rattle.mp_verdict.specs.Laws.{Holds, IsExact}
 use Rattle.mp_verdict.proofs.VerdictProof as law
-use Rattle.mp_verdict.proofs.StandingLaw.{no_motion}
-use Rattle.mp_admit.specs.declared.standing.Standing.{Standing as Kept}
+use Rattle.mp_verdict.proofs.ScoreLaw.{no_motion}
+use Rattle.mp_admit.specs.declared.score.Score.{Score as Kept}
 use Rattle.mp_admit.specs.declared.verdict.Verdict.{Verdict as KeptVerdict}
-use Rattle.mp_admit.specs.Standings.{standing_of, standings_of}
+use Rattle.mp_admit.specs.Scores.{score_of, scores_of}
 use Rattle.mp_admit.specs.Verdicts.{verdict_of}
 use Rattle.mp_admit.proofs.FaultLemmas.{fault_then}
 
@@ -50,18 +50,18 @@ judged_refused seen seen' net flows slack vector num fault n h g = fault_then se
 pub ruleset judging = (to_z-of_z, judged_tight, judged_below)
 
 -- ---- after the game
-pub after_no_vector : {X X' W : Type 0} (seen : X → List ℤ) (seen' : X' → Verdict) (net : Network) (weighed : List ℤ → Option W) (flows : Flows) (standing : Standing) (fault : CalcFault) → Gives seen (Err fault) (at_place Place.Adjoint (vector_of net standing)) → Gives seen' (Err fault) (verdict_after net weighed flows (Some standing))
+pub after_no_vector : {X X' W : Type 0} (seen : X → List ℤ) (seen' : X' → Verdict) (net : Network) (weighed : List ℤ → Option W) (flows : Flows) (score : Score) (fault : CalcFault) → Gives seen (Err fault) (at_place Place.Adjoint (vector_of net score)) → Gives seen' (Err fault) (verdict_after net weighed flows (Some score))
 unfolding verdict_after
-after_no_vector seen seen' net weighed flows standing fault g = fault_then seen seen' fault (at_place Place.Adjoint (vector_of net standing)) _ _ refl g
+after_no_vector seen seen' net weighed flows score fault g = fault_then seen seen' fault (at_place Place.Adjoint (vector_of net score)) _ _ refl g
 
-pub after_no_sums : {W : Type 0} (net : Network) (weighed : List ℤ → Option W) (flows : Flows) (standing : Standing) (vector : List ℤ) → at_place Place.Adjoint (vector_of net standing) ≡ Reached vector → weighed vector ≡ None → verdict_after net weighed flows (Some standing) ≡ PassesAt Place.Vector
+pub after_no_sums : {W : Type 0} (net : Network) (weighed : List ℤ → Option W) (flows : Flows) (score : Score) (vector : List ℤ) → at_place Place.Adjoint (vector_of net score) ≡ Reached vector → weighed vector ≡ None → verdict_after net weighed flows (Some score) ≡ PassesAt Place.Vector
 unfolding verdict_after
-after_no_sums net weighed flows standing vector e w = rw (e, w) refl
+after_no_sums net weighed flows score vector e w = rw (e, w) refl
 
-pub after_judged : {W : Type 0} (net : Network) (weighed : List ℤ → Option W) (flows : Flows) (standing : Standing) (vector : List ℤ) (sums : W) → at_place Place.Adjoint (vector_of net standing) ≡ Reached vector → weighed vector ≡ Some sums →
-    verdict_after net weighed flows (Some standing) ≡ judged net flows standing.slack vector standing.slack.num
+pub after_judged : {W : Type 0} (net : Network) (weighed : List ℤ → Option W) (flows : Flows) (score : Score) (vector : List ℤ) (sums : W) → at_place Place.Adjoint (vector_of net score) ≡ Reached vector → weighed vector ≡ Some sums →
+    verdict_after net weighed flows (Some score) ≡ judged net flows score.slack vector score.slack.num
 unfolding verdict_after
-after_judged net weighed flows standing vector sums e w = rw (e, w) refl
+after_judged net weighed flows score vector sums e w = rw (e, w) refl
 
 -- ---- the whole
 pub verdict_no_flows : {W X : Type 0} (seen : X → Verdict) (net : Network) (weighed : List ℤ → Option W) (fault : CalcFault) → flow.Gives Place.Flow flows_of (Err fault) (stated_flows net) → Gives seen (Err fault) (verdict net weighed)
@@ -69,18 +69,18 @@ unfolding verdict
 verdict_no_flows {X = X} seen net weighed fault (inl p) = subst (λ (f : CalcFault). Gives {X = X} seen (Err f) (verdict net weighed)) (sym p.0) (rw p.1 refl)
 verdict_no_flows {X = X} seen net weighed fault (inr m) = subst (λ (f : CalcFault). Gives {X = X} seen (Err f) (verdict net weighed)) (sym m) tt
 
-verdict_with : {W : Type 0} (net : Network) (weighed : List ℤ → Option W) (flows : Flows) → stated_flows net ≡ Some flows → verdict net weighed ≡ then (game net flows) (λ standing. verdict_after net weighed flows standing)
+verdict_with : {W : Type 0} (net : Network) (weighed : List ℤ → Option W) (flows : Flows) → stated_flows net ≡ Some flows → verdict net weighed ≡ then (game net flows) (λ score. verdict_after net weighed flows score)
 unfolding verdict
 verdict_with net weighed flows e = rw e refl
 
-pub verdict_no_game : {W X X' : Type 0} (seen : X → Option Standing) (seen' : X' → Verdict) (net : Network) (weighed : List ℤ → Option W) (flows : Flows) (fault : CalcFault) → stated_flows net ≡ Some flows → Gives seen (Err fault) (game net flows) → Gives seen' (Err fault) (verdict net weighed)
+pub verdict_no_game : {W X X' : Type 0} (seen : X → Option Score) (seen' : X' → Verdict) (net : Network) (weighed : List ℤ → Option W) (flows : Flows) (fault : CalcFault) → stated_flows net ≡ Some flows → Gives seen (Err fault) (game net flows) → Gives seen' (Err fault) (verdict net weighed)
 verdict_no_game seen seen' net weighed flows fault e g = fault_then seen seen' fault (game net flows) _ (verdict net weighed) (verdict_with net weighed flows e) g
 
-pub verdict_at : {W : Type 0} (net : Network) (weighed : List ℤ → Option W) (flows : Flows) (kept : Option Kept) (standing : Kept) → stated_flows net ≡ Some flows → game net flows ≡ Reached (standings_of kept) → kept ≡ Some standing → verdict net weighed ≡ verdict_after net weighed flows (Some (standing_of standing))
-verdict_at net weighed flows kept standing e g k = verdict_with net weighed flows e ∙ ap (λ t. then t (λ standing. verdict_after net weighed flows standing)) (g ∙ ap (λ t. Reached (standings_of t)) k)
+pub verdict_at : {W : Type 0} (net : Network) (weighed : List ℤ → Option W) (flows : Flows) (kept : Option Kept) (score : Kept) → stated_flows net ≡ Some flows → game net flows ≡ Reached (scores_of kept) → kept ≡ Some score → verdict net weighed ≡ verdict_after net weighed flows (Some (score_of score))
+verdict_at net weighed flows kept score e g k = verdict_with net weighed flows e ∙ ap (λ t. then t (λ score. verdict_after net weighed flows score)) (g ∙ ap (λ t. Reached (scores_of t)) k)
 
-pub some_movement : (net : Network) (flows : Flows) (kept : Option Kept) → IsAcceptable net → AreFlows net flows → game net flows ≡ Reached (standings_of kept) → kept ≡ None → ⊥
-some_movement net flows kept ok are g n = let none = no_motion net ok.network flows are (g ∙ ap (λ t. Reached (standings_of t)) n) in let some = ok.range.movements in omega (arith, none, some)
+pub some_movement : (net : Network) (flows : Flows) (kept : Option Kept) → IsAcceptable net → AreFlows net flows → game net flows ≡ Reached (scores_of kept) → kept ≡ None → ⊥
+some_movement net flows kept ok are g n = let none = no_motion net ok.network flows are (g ∙ ap (λ t. Reached (scores_of t)) n) in let some = ok.range.movements in omega (arith, none, some)
 
 pub verdict_holds : {W : Type 0} (net : Network) (weighed : List ℤ → Option W) (r : Result KeptVerdict CalcFault) → IsNetwork net → Gives verdict_of r (verdict net weighed) → IfOk r (λ v. Holds net (verdict_of v))
 verdict_holds {W} net weighed (Ok v) ok g = law.holds W net ok weighed (verdict_of v) g

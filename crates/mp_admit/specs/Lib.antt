@@ -1,5 +1,5 @@
 pub mod Lists
-pub mod Standings
+pub mod Scores
 pub mod Turns
 pub mod Spreads
 pub mod Mixings

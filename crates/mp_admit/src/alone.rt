@@ -8,10 +8,10 @@ ghost use Rattle.mp_num.specs.Operations.{times, less, num};
 ghost use Rattle.mp_verdict.specs.Rates.{period_unit, rate_need, unit_need};
 ghost use Rattle.mp_verdict.specs.Game.{slack_alone, alone, is_lower, tried, all_tried};
 ghost use Rattle.mp_verdict.specs.Stated.{Gives, at_place};
-ghost use Rattle.mp_admit.specs.Standings.{standings_of, lower_than, IfStands, AreValues};
+ghost use Rattle.mp_admit.specs.Scores.{scores_of, lower_than, IfStands, AreValues};
 
 use crate::rates::{period_unit, rate_need, unit_need};
-use crate::standing::Standing;
+use crate::score::Score;
 use mp_flow::{CalcFault, FlowPair, Place};
 use mp_net::{JunctionNo, MovementNo, Net};
 use mp_num::{Frac, Numbers, frac_cmp, mul, sub};
@@ -88,75 +88,75 @@ fn is_lower(a: &Frac, b: &Frac) -> Option<bool>
     }
 }
 
-/// Whether the slack is lower than that of the standing, or there is none yet.
-fn lower_than(slack: &Frac, standing: &Option<Standing>) -> Option<bool>
-    ensures { result ≡ lower_than slack.now (standings_of standing.now) }
+/// Whether the slack is lower than that of the score, or there is none yet.
+fn lower_than(slack: &Frac, score: &Option<Score>) -> Option<bool>
+    ensures { result ≡ lower_than slack.now (scores_of score.now) }
 {
-    match standing {
+    match score {
         None => Some(true),
         Some(old) => is_lower(slack, &old.slack),
     }
 }
 
-/// The standing after movement `k` of junction `j` was tried alone.
+/// The score after movement `k` of junction `j` was tried alone.
 #[tactic(auto, using(crate::proofs::AloneLemmas::trying))]
 fn try_movement(
     alloc: Global,
     net: &Net,
     flows: &FlowPair,
     j: JunctionNo,
-    standing: Option<Standing>,
+    score: Option<Score>,
     k: MovementNo,
-) -> Result<Option<Standing>, CalcFault>
+) -> Result<Option<Score>, CalcFault>
     requires network { IsNetwork net.now }
     requires flows { AreFlows net.now (flows_of flows.now) }
     requires junction { (1 ≤ j) × (j ≤ length net.now.junctions) }
     requires known { (1 ≤ k) × (k ≤ length net.now.movements) }
-    requires stands { IfStands net.now standing }
-    ensures calculation { Gives standings_of result (at_place (Place.Game j) (tried net.now (flows_of flows.now) j (own net.now (junction_at net.now j)) (standings_of standing) k)) }
+    requires stands { IfStands net.now score }
+    ensures calculation { Gives scores_of result (at_place (Place.Game j) (tried net.now (flows_of flows.now) j (own net.now (junction_at net.now j)) (scores_of score) k)) }
     ensures stands { IfOk result (IfStands net.now) }
 {
     let Some(slack) = slack_alone(net, flows, k) else {
         return Err(CalcFault::Overflow(Place::Game(j)));
     };
-    let Some(lower) = lower_than(&slack, &standing) else {
+    let Some(lower) = lower_than(&slack, &score) else {
         return Err(CalcFault::Overflow(Place::Game(j)));
     };
     if !lower {
-        return Ok(standing);
+        return Ok(score);
     }
     let Ok(values) = alone(alloc, net, j, k) else {
         return Err(CalcFault::NoMemory);
     };
-    Ok(Some(Standing {
+    Ok(Some(Score {
         slack,
         junction: j,
         values,
     }))
 }
 
-/// The standing after each movement of junction `j` was tried alone.
+/// The score after each movement of junction `j` was tried alone.
 #[tactic(auto, using(crate::proofs::AloneLemmas::trials))]
 pub fn try_movements(
     alloc: Global,
     net: &Net,
     flows: &FlowPair,
     j: JunctionNo,
-    before: Option<Standing>,
-) -> Result<Option<Standing>, CalcFault>
+    before: Option<Score>,
+) -> Result<Option<Score>, CalcFault>
     requires network { IsNetwork net.now }
     requires flows { AreFlows net.now (flows_of flows.now) }
     requires junction { (1 ≤ j) × (j ≤ length net.now.junctions) }
     requires stands { IfStands net.now before }
-    ensures calculation { Gives standings_of result (at_place (Place.Game j) (all_tried net.now (flows_of flows.now) j (standings_of before))) }
+    ensures calculation { Gives scores_of result (at_place (Place.Game j) (all_tried net.now (flows_of flows.now) j (scores_of before))) }
     ensures stands { IfOk result (IfStands net.now) }
 {
-    let mut standing = before;
+    let mut score = before;
     for k in net.own(j) {
-        standing = match try_movement(alloc, net, flows, j, standing, *k) {
+        score = match try_movement(alloc, net, flows, j, score, *k) {
             Ok(next) => next,
             Err(fault) => return Err(fault),
         };
     }
-    Ok(standing)
+    Ok(score)
 }

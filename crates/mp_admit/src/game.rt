@@ -5,29 +5,29 @@ ghost use Rattle.mp_flow.specs.Systems.{AreFlows};
 ghost use Rattle.mp_flow.specs.Calculating.{flows_of};
 ghost use Rattle.mp_verdict.specs.Game.{after_junction, game};
 ghost use Rattle.mp_verdict.specs.Stated.{Gives};
-ghost use Rattle.mp_admit.specs.Standings.{standings_of, IfStands};
+ghost use Rattle.mp_admit.specs.Scores.{scores_of, IfStands};
 
 use crate::alone::try_movements;
-use crate::standing::Standing;
+use crate::score::Score;
 use crate::turns::play;
 use mp_flow::{CalcFault, FlowPair};
 use mp_net::{JunctionNo, Net};
 use std::alloc::Global;
 
-/// The standing after junction `j`: its movements were tried alone, and then its stages together.
+/// The score after junction `j`: its movements were tried alone, and then its stages together.
 #[tactic(auto, using(crate::proofs::GameLemmas::passing))]
 fn pass_junction(
     alloc: Global,
     net: &Net,
     flows: &FlowPair,
     j: JunctionNo,
-    before: Option<Standing>,
-) -> Result<Option<Standing>, CalcFault>
+    before: Option<Score>,
+) -> Result<Option<Score>, CalcFault>
     requires network { IsNetwork net.now }
     requires flows { AreFlows net.now (flows_of flows.now) }
     requires junction { (1 ≤ j) × (j ≤ length net.now.junctions) }
     requires stands { IfStands net.now before }
-    ensures calculation { Gives standings_of result (after_junction net.now (flows_of flows.now) (standings_of before) j) }
+    ensures calculation { Gives scores_of result (after_junction net.now (flows_of flows.now) (scores_of before) j) }
     ensures stands { IfOk result (IfStands net.now) }
 {
     let tried = match try_movements(alloc, net, flows, j, before) {
@@ -38,25 +38,25 @@ fn pass_junction(
         return Ok(None);
     };
     match play(alloc, net, flows, j, start) {
-        Ok(standing) => Ok(Some(standing)),
+        Ok(score) => Ok(Some(score)),
         Err(fault) => Err(fault),
     }
 }
 
-/// The standing at the end of the game, after all junctions in order; its slack is the greatest of the network.
+/// The score at the end of the game, after all junctions in order; its slack is the greatest of the network.
 #[tactic(auto, using(crate::proofs::GameLemmas::games))]
-pub fn game(alloc: Global, net: &Net, flows: &FlowPair) -> Result<Option<Standing>, CalcFault>
+pub fn game(alloc: Global, net: &Net, flows: &FlowPair) -> Result<Option<Score>, CalcFault>
     requires network { IsNetwork net.now }
     requires flows { AreFlows net.now (flows_of flows.now) }
-    ensures calculation { Gives standings_of result (game net.now (flows_of flows.now)) }
+    ensures calculation { Gives scores_of result (game net.now (flows_of flows.now)) }
     ensures stands { IfOk result (IfStands net.now) }
 {
-    let mut standing = None;
+    let mut score = None;
     for j in 0..net.junctions() {
-        standing = match pass_junction(alloc, net, flows, j + 1, standing) {
+        score = match pass_junction(alloc, net, flows, j + 1, score) {
             Ok(next) => next,
             Err(fault) => return Err(fault),
         };
     }
-    Ok(standing)
+    Ok(score)
 }

@@ -9,7 +9,7 @@ mod game;
 mod junction;
 mod mix;
 mod rates;
-mod standing;
+mod score;
 mod turns;
 mod vector;
 mod verdict;

@@ -11,11 +11,11 @@ ghost use Rattle.mp_admit.specs.Mixings.{certified_with};
 
 use crate::junction::optimum_at;
 use crate::rates::rates_at;
-use crate::turns::TURNS;
 use mp_cert::{Cert, Mix, Mixes};
 use mp_flow::{CalcFault, FlowPair, Place};
 use mp_net::{JunctionNo, Net};
 use mp_num::{Frac, Numbers};
+use mp_verdict::TURN_LIMIT;
 use std::alloc::{AllocError, Global};
 
 /// The mix of junction `j` at the rates: the dual of its program.
@@ -26,7 +26,7 @@ fn mix_at(alloc: Global, net: &Net, j: JunctionNo, rates: &[i128]) -> Result<Mix
     requires rates { length rates.now ≡ 2 + length net.now.movements }
     ensures { Gives mix_of result (mixed net.now (rates_in rates.now) j) }
 {
-    match optimum_at(alloc, net, j, rates, TURNS, Place::Mix(j)) {
+    match optimum_at(alloc, net, j, rates, TURN_LIMIT, Place::Mix(j)) {
         Ok(optimum) => Ok(Mix {
             whole: optimum.dual_den,
             parts: optimum.dual,

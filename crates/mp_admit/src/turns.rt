@@ -7,18 +7,20 @@ ghost use Rattle.mp_flow.specs.Calculating.{flows_of};
 ghost use Rattle.mp_num.specs.Operations.{times, plus, less, num};
 ghost use Rattle.mp_verdict.specs.Game.{summed_beside};
 ghost use Rattle.mp_verdict.specs.Rates.{period_unit, rate_need, unit_need, rates_in};
-ghost use Rattle.mp_verdict.specs.Game.{turn_limit, is_over, slack_of, lowered, turn, played};
+ghost use Rattle.mp_verdict.specs.Game.{is_over, slack_of, lowered, turn, played};
+ghost use Rattle.mp_verdict.specs.declared.TheConstants.{TURN_LIMIT};
 ghost use Rattle.mp_verdict.specs.Stated.{Gives};
-ghost use Rattle.mp_admit.specs.Standings.{standing_of, StandsIn, AreValues, AskSome};
+ghost use Rattle.mp_admit.specs.Scores.{score_of, StandsIn, AreValues, AskSome};
 ghost use Rattle.mp_admit.specs.Turns.{turn_of, Falls};
 
 use crate::junction::optimum_at;
 use crate::rates::{period_unit, rate_need, rates_at, unit_need};
-use crate::standing::Standing;
+use crate::score::Score;
 use mp_flow::{CalcFault, FlowPair, Place};
 use mp_net::{JunctionNo, MovementNo, Net};
 use mp_num::{Frac, add, mul, sub};
 use mp_simplex::Optimum;
+use mp_verdict::TURN_LIMIT;
 use std::alloc::Global;
 
 /// Whether the value of a junction's program is above the denominator of the rates.
@@ -141,7 +143,7 @@ pub enum Turn {
     /// The junction carries the slack.
     Carried,
     /// The slack is lower, with so many turns left.
-    Lowered { left: u32, standing: Standing },
+    Lowered { left: u32, score: Score },
 }
 
 /// The turn in which the optimum of junction `j` lowers the slack, with so many turns left before.
@@ -175,7 +177,7 @@ fn lower(
     match slack_of(net, flows, j, values.as_slice(), den) {
         Some(slack) => Ok(Turn::Lowered {
             left: turns - 1,
-            standing: Standing {
+            score: Score {
                 slack,
                 junction: j,
                 values,
@@ -219,38 +221,35 @@ fn take_turn(
     lower(net, flows, j, left, optimum)
 }
 
-/// How many turns each junction has, and how many pivots the program of its mix.
-pub const TURNS: u32 = 4096;
-
-/// The standing after the slack fell until junction `j` carries it.
+/// The score after the slack fell until junction `j` carries it.
 #[tactic(auto, using(crate::proofs::PlayLemmas::playing))]
 pub fn play(
     alloc: Global,
     net: &Net,
     flows: &FlowPair,
     j: JunctionNo,
-    start: Standing,
-) -> Result<Standing, CalcFault>
+    start: Score,
+) -> Result<Score, CalcFault>
     requires network { IsNetwork net.now }
     requires flows { AreFlows net.now (flows_of flows.now) }
     requires junction { (1 ≤ j) × (j ≤ length net.now.junctions) }
     requires stands { StandsIn net.now start }
-    ensures calculation { Gives standing_of result (played net.now (flows_of flows.now) j (turn_limit + 1) turn_limit (standing_of start)) }
+    ensures calculation { Gives score_of result (played net.now (flows_of flows.now) j (TURN_LIMIT + 1) TURN_LIMIT (score_of start)) }
     ensures stands { IfOk result (StandsIn net.now) }
 {
-    let mut standing = start;
-    let mut turns = TURNS;
+    let mut score = start;
+    let mut turns = TURN_LIMIT;
     loop {
-        match take_turn(alloc, net, flows, j, turns, &standing.slack) {
-            Ok(Turn::Carried) => return Ok(standing),
+        match take_turn(alloc, net, flows, j, turns, &score.slack) {
+            Ok(Turn::Carried) => return Ok(score),
             Ok(
                 Turn::Lowered {
                     left,
-                    standing: next,
+                    score: next,
                 },
             ) => {
                 turns = left;
-                standing = next;
+                score = next;
             }
             Err(fault) => return Err(fault),
         }

@@ -11,10 +11,10 @@ ghost use Rattle.mp_verdict.specs.Vector.{value_beside, spread, link_value, link
 ghost use Rattle.mp_verdict.specs.Stated.{Gives, at_place};
 ghost use Rattle.mp_verdict.specs.Laws.{IsNatural};
 ghost use Rattle.mp_admit.specs.Spreads.{vector_from, BringSigned};
-ghost use Rattle.mp_admit.specs.Standings.{standing_of, StandsIn};
+ghost use Rattle.mp_admit.specs.Scores.{score_of, StandsIn};
 
 use crate::rates::reduce;
-use crate::standing::Standing;
+use crate::score::Score;
 use mp_cert::Against;
 use mp_flow::{CalcFault, Flow, Place, adjoint};
 use mp_net::{LinkNo, MovementNo, Net};
@@ -53,14 +53,14 @@ fn values_beside(
     Ok(all)
 }
 
-/// The values of the standing over all movements, 0 outside its junction.
+/// The values of the score over all movements, 0 outside its junction.
 #[tactic(auto, unfolding(mp_verdict::specs::Vector::spread))]
-fn spread(alloc: Global, net: &Net, standing: &Standing) -> Result<Vec<i128>, AllocError>
-    requires { StandsIn net.now standing.now }
-    ensures { IfOk result (λ v. v.items ≡ spread net.now (standing_of standing.now)) }
+fn spread(alloc: Global, net: &Net, score: &Score) -> Result<Vec<i128>, AllocError>
+    requires { StandsIn net.now score.now }
+    ensures { IfOk result (λ v. v.items ≡ spread net.now (score_of score.now)) }
 {
-    let own = net.own(standing.junction);
-    values_beside(alloc, own, standing.values.as_slice(), net.movements())
+    let own = net.own(score.junction);
+    values_beside(alloc, own, score.values.as_slice(), net.movements())
 }
 
 /// The sum with the share of movement `k` times its value.
@@ -184,15 +184,15 @@ fn vector_by(alloc: Global, net: &Net, values: &[i128]) -> Result<Vec<i128>, Cal
     }
 }
 
-/// The vector that shows the slack of a standing.
+/// The vector that shows the slack of a score.
 #[tactic(auto, using(crate::proofs::VectorLemmas::vectors))]
-pub fn vector_of(alloc: Global, net: &Net, standing: &Standing) -> Result<Against, CalcFault>
+pub fn vector_of(alloc: Global, net: &Net, score: &Score) -> Result<Against, CalcFault>
     requires network { IsNetwork net.now }
-    requires stands { StandsIn net.now standing.now }
-    ensures calculation { Gives (λ a. a.p) result (at_place Place.Adjoint (vector_of net.now (standing_of standing.now))) }
+    requires stands { StandsIn net.now score.now }
+    ensures calculation { Gives (λ a. a.p) result (at_place Place.Adjoint (vector_of net.now (score_of score.now))) }
     ensures natural { IfOk result (λ a. IsNatural net.now a.p) }
 {
-    let Ok(values) = spread(alloc, net, standing) else {
+    let Ok(values) = spread(alloc, net, score) else {
         return Err(CalcFault::NoMemory);
     };
     match vector_by(alloc, net, &values) {

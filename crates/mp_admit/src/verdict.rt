@@ -7,12 +7,12 @@ ghost use Rattle.mp_cert.specs.Weighing.{weighed};
 ghost use Rattle.mp_verdict.specs.Verdict.{judged, verdict_after, verdict};
 ghost use Rattle.mp_verdict.specs.Stated.{Gives};
 ghost use Rattle.mp_verdict.specs.Laws.{IsNatural, Holds, IsExact};
-ghost use Rattle.mp_admit.specs.Standings.{standing_of, StandsIn};
+ghost use Rattle.mp_admit.specs.Scores.{score_of, StandsIn};
 ghost use Rattle.mp_admit.specs.Verdicts.{verdict_of};
 
 use crate::game::game;
 use crate::mix::certificate_at;
-use crate::standing::Standing;
+use crate::score::Score;
 use crate::vector::vector_of;
 use mp_cert::{Against, Cert, Overflow, weigh};
 use mp_flow::{CalcFault, FlowPair, Place, flows};
@@ -75,19 +75,19 @@ fn decide(
     alloc: Global,
     net: &Net,
     flows: &FlowPair,
-    standing: &Standing,
+    score: &Score,
 ) -> Result<Verdict, CalcFault>
     requires network { IsNetwork net.now }
     requires flows { AreFlows net.now (flows_of flows.now) }
-    requires stands { StandsIn net.now standing.now }
-    ensures { Gives verdict_of result (verdict_after net.now (weighed net.now) (flows_of flows.now) (Some (standing_of standing.now))) }
+    requires stands { StandsIn net.now score.now }
+    ensures { Gives verdict_of result (verdict_after net.now (weighed net.now) (flows_of flows.now) (Some (score_of score.now))) }
 {
-    let against = match vector_of(alloc, net, standing) {
+    let against = match vector_of(alloc, net, score) {
         Ok(against) => against,
         Err(fault) => return Err(fault),
     };
     match weigh(net, &against) {
-        Ok(_sums) => judge(alloc, net, flows, standing.slack, against),
+        Ok(_sums) => judge(alloc, net, flows, score.slack, against),
         Err(Overflow) => Err(CalcFault::Overflow(Place::Vector)),
     }
 }
@@ -109,12 +109,12 @@ pub fn admit(alloc: Global, net: &Net) -> Result<Verdict, CalcFault>
         Ok(flows) => flows,
         Err(fault) => return Err(fault),
     };
-    let standing = match game(alloc, net, &flows) {
-        Ok(standing) => standing,
+    let score = match game(alloc, net, &flows) {
+        Ok(score) => score,
         Err(fault) => return Err(fault),
     };
-    match standing {
-        Some(standing) => decide(alloc, net, &flows, &standing),
+    match score {
+        Some(score) => decide(alloc, net, &flows, &score),
         // A network has a movement, and each movement its junction.
         None => unreachable!(),
     }

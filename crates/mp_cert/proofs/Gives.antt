@@ -3,7 +3,7 @@ use Rattle.std.proofs.Common.{◌≡◌, ℤ, pos, ◌+ℤ◌, ◌-ℤ◌, ◌*�
 use Rattle.std.proofs.lemmas.Int.{ints}
 use Rattle.std.proofs.lemmas.Option.{option_and_then_some, same_Some}
 use Rattle.mp_model.specs.Sums.{int_sum_by}
-use Rattle.mp_num.specs.Passing.{run}
+use Rattle.mp_num.specs.Passing.{stepped}
 use Rattle.mp_num.proofs.CheckedLemmas.{within_some}
 use Rattle.mp_num.specs.Operations.{times, plus, less, added, summed}
 use Rattle.mp_cert.specs.Rules.{at_most}
@@ -46,11 +46,11 @@ gives-same a v w g e = record { at = λ z h. g.at z h ∙ e }
 pub gives-then : (o : Option ℤ) (f : ℤ → Option ℤ) (v w : ℤ) → Gives o v → ((t : ℤ) → t ≡ v → Gives (f t) w) → Gives (option_and_then f o) w
 gives-then o f v w g h = record { at = λ z e. option_and_then_some f o z e (λ t ht e'. (h t (g.at t ht)).at z e') }
 
-run_gives : {X : Type 0} (term : X → Option ℤ) (v : X → ℤ) (acc : ℤ) (xs : List X) → ((x : X) → Gives (term x) (v x)) → Gives (run (added term) acc xs) (acc +ℤ int_sum_by v xs)
-unfolding run
+run_gives : {X : Type 0} (term : X → Option ℤ) (v : X → ℤ) (acc : ℤ) (xs : List X) → ((x : X) → Gives (term x) (v x)) → Gives (stepped (added term) acc xs) (acc +ℤ int_sum_by v xs)
+unfolding stepped
 run_gives term v acc [] h = gives-same _ _ _ (gives-some acc) (omega (arith, ints))
 run_gives term v acc (x ∷ xs) h =
-    gives-then (plus (Some acc) (term x)) (λ t. run (added term) t xs) (acc +ℤ v x) (acc +ℤ (v x +ℤ int_sum_by v xs)) (gives-plus (Some acc) (term x) acc (v x) (gives-some acc) (h x))
+    gives-then (plus (Some acc) (term x)) (λ t. stepped (added term) t xs) (acc +ℤ v x) (acc +ℤ (v x +ℤ int_sum_by v xs)) (gives-plus (Some acc) (term x) acc (v x) (gives-some acc) (h x))
     (λ t e. gives-same _ _ _ (run_gives term v t xs h) (omega (arith, ints, e)))
 
 -- a sum gives the sum of what its terms give

@@ -8,7 +8,7 @@ use Rattle.mp_laws.proofs.Lists.{at_in, back_one}
 use Rattle.mp_cert.proofs.PlaceLemmas.{in_list}
 use Rattle.mp_model.specs.Network.{Network, junction_at, no_junction, junction_numbers, junction_of_movement, from_of, share_of, flow_of, rate_before, into_link, has}
 use Rattle.mp_model.specs.Certificate.{Cert, int_entry, rate_of, mix_at, no_mix, HasLengths, parts_with, rate_into, MassRule, ServeRule, BalanceRule}
-use Rattle.mp_num.specs.Passing.{run}
+use Rattle.mp_num.specs.Passing.{stepped}
 use Rattle.mp_num.specs.Operations.{plus}
 use Rattle.mp_cert.specs.Rules.{mass_holds, part_added, parts_for, served_at, serve_holds, inflow, coming, need, balance_holds, holds}
 use Rattle.mp_cert.specs.FirstBroken.{Keeps}
@@ -35,15 +35,15 @@ gives-taken k stage part sum = go (has stage k)
 
 gives-parts : (k : ℕ) (step : ℤ → ℕ → Option ℤ) (stages : List (List ℕ)) (parts : List ℤ) (i : ℕ) (acc : ℤ) → length parts ≡ length stages →
     ((m : ℕ) (sum : ℤ) → m < length stages → step sum (i + m) ≡ taken k (get_or stages m []) (get_or parts m (pos 0)) sum) →
-    Gives (run step acc (range_with_len i (length stages))) (acc +ℤ parts_with stages parts k)
-unfolding run
+    Gives (stepped step acc (range_with_len i (length stages))) (acc +ℤ parts_with stages parts k)
+unfolding stepped
 gives-parts k step [] parts i acc e h = gives-same _ _ _ (gives-some acc) (omega (arith, ints))
 gives-parts k step (stage ∷ stages) [] i acc e h = absurd (omega (arith, e))
 gives-parts k step (stage ∷ stages) (part ∷ parts) i acc e h =
     let here : i + 0 ≡ i = omega arith in
     let first : Gives (step acc i) (acc +ℤ cond (has stage k) part (pos 0)) =
     subst (λ o. Gives o (acc +ℤ cond (has stage k) part (pos 0))) (sym (h 0 acc (omega arith)) ∙ ap (step acc) here) (gives-taken k stage part acc) in
-    gives-then (step acc i) (λ t. run step t (range_with_len (i + 1) (length stages))) (acc +ℤ cond (has stage k) part (pos 0)) (acc +ℤ (cond (has stage k) part (pos 0) +ℤ parts_with stages parts k)) first
+    gives-then (step acc i) (λ t. stepped step t (range_with_len (i + 1) (length stages))) (acc +ℤ cond (has stage k) part (pos 0)) (acc +ℤ (cond (has stage k) part (pos 0) +ℤ parts_with stages parts k)) first
     (λ t et. gives-same _ _ _ (gives-parts k step stages parts (i + 1) t (omega (arith, e)) (λ m sum l. let there : (i + 1) + m ≡ i + suc m = omega arith in ap (step sum) there ∙ h (suc m) sum (omega (arith, l)))) (omega (arith, ints, et)))
 
 -- the parts of the stages that hold a movement

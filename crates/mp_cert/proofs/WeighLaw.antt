@@ -10,7 +10,7 @@ use Rattle.mp_model.specs.Network.{Network, Junction, movement_numbers, junction
 use Rattle.mp_model.specs.Pressure.{queued_downstream, positive_weight, pressure}
 use Rattle.mp_model.specs.Load.{greatest, load, junction_capacity, capacity}
 use Rattle.mp_model.specs.Certificate.{int_entry}
-use Rattle.mp_num.specs.Passing.{run}
+use Rattle.mp_num.specs.Passing.{stepped}
 use Rattle.mp_num.specs.Operations.{times, plus, num, summed}
 use Rattle.mp_cert.specs.Weighing.{brought, load_formed, counted, behind_formed, weight_formed, press_added, pressed, pressure_formed, greater, stage_taken, junction_formed, served_formed, weighed}
 use Rattle.mp_cert.specs.declared.types.Weighed.{Weighed}
@@ -40,16 +40,16 @@ gives-summed_pos : (term : ℕ → Option ℤ) (f : ℕ → ℕ) (xs : List ℕ)
 gives-summed_pos term f xs h = gives-same _ _ _ (gives-summed term (λ x. pos (f x)) xs h) (sums_pos f xs)
 
 -- ---- a running value over the numbers of a list, and over the list
-by_number : {X S : Type 0} (f : S → X → Option S) (g : S → ℕ → Option S) (d : X) (xs : List X) (i : ℕ) → ((m : ℕ) (s : S) → m < length xs → g s (i + m) ≡ f s (get_or xs m d)) → (acc : S) → run g acc (range_with_len i (length xs)) ≡ run f acc xs
-unfolding run
+by_number : {X S : Type 0} (f : S → X → Option S) (g : S → ℕ → Option S) (d : X) (xs : List X) (i : ℕ) → ((m : ℕ) (s : S) → m < length xs → g s (i + m) ≡ f s (get_or xs m d)) → (acc : S) → stepped g acc (range_with_len i (length xs)) ≡ stepped f acc xs
+unfolding stepped
 by_number f g d [] i h acc = refl
 by_number {S = S} f g d (x ∷ xs) i h acc =
     let here : i + 0 ≡ i = omega arith in
     let first : g acc i ≡ f acc x = sym (ap (g acc) here) ∙ h 0 acc (omega arith) in
-    let rest : (t : S) → run g t (range_with_len (i + 1) (length xs)) ≡ run f t xs = λ t. by_number f g d xs (i + 1) (λ m s l. let there : (i + 1) + m ≡ i + suc m = omega arith in ap (g s) there ∙ h (suc m) s (omega (arith, l))) t in
-    ap (option_and_then (λ t. run g t (range_with_len (i + 1) (length xs)))) first ∙ then_same (f acc x) rest
+    let rest : (t : S) → stepped g t (range_with_len (i + 1) (length xs)) ≡ stepped f t xs = λ t. by_number f g d xs (i + 1) (λ m s l. let there : (i + 1) + m ≡ i + suc m = omega arith in ap (g s) there ∙ h (suc m) s (omega (arith, l))) t in
+    ap (option_and_then (λ t. stepped g t (range_with_len (i + 1) (length xs)))) first ∙ then_same (f acc x) rest
   where
-    then_same : (o : Option S) → ((t : S) → run g t (range_with_len (i + 1) (length xs)) ≡ run f t xs) → option_and_then (λ t. run g t (range_with_len (i + 1) (length xs))) o ≡ option_and_then (λ t. run f t xs) o
+    then_same : (o : Option S) → ((t : S) → stepped g t (range_with_len (i + 1) (length xs)) ≡ stepped f t xs) → option_and_then (λ t. stepped g t (range_with_len (i + 1) (length xs))) o ≡ option_and_then (λ t. stepped f t xs) o
     then_same None r = refl
     then_same (Some t) r = r t
 
@@ -92,11 +92,11 @@ module _ (net : Network) (p : List ℤ) (signs : AllByRecursion (λ x. pos 0 ≤
   unfolding pressed
   gives-pressed sum k = gives-then (weight_formed net p k) (λ weight. press_added net k sum weight) (pos (net.shares * q k) -ℤ pos (queued_downstream net q k)) _ (gives-weight k) (λ weight e. gives-press k (net.shares * q k) (queued_downstream net q k) sum weight e)
 
-  gives-pressures : (stage : List ℕ) (sum : ℤ) → Gives (run (pressed net p) sum stage) (sum +ℤ pos (pressure net q stage))
-  unfolding run
+  gives-pressures : (stage : List ℕ) (sum : ℤ) → Gives (stepped (pressed net p) sum stage) (sum +ℤ pos (pressure net q stage))
+  unfolding stepped
   gives-pressures [] sum = gives-same _ _ _ (gives-some sum) (omega (arith, ints))
   gives-pressures (k ∷ ks) sum =
-      gives-then (pressed net p sum k) (λ t. run (pressed net p) t ks) (sum +ℤ pos (flow_of net k * positive_weight net q k)) _ (gives-pressed sum k)
+      gives-then (pressed net p sum k) (λ t. stepped (pressed net p) t ks) (sum +ℤ pos (flow_of net k * positive_weight net q k)) _ (gives-pressed sum k)
       (λ t e. gives-same _ _ _ (gives-pressures ks t) (omega (arith, ints, e, sum_by-cons (λ k. flow_of net k * positive_weight net q k) k ks)))
 
   gives-pressure : (stage : List ℕ) → Gives (pressure_formed net p stage) (pos (pressure net q stage))
@@ -116,11 +116,11 @@ module _ (net : Network) (p : List ℤ) (signs : AllByRecursion (λ x. pos 0 ≤
   gives-map f None v g = record { at = λ z e. absurd (cc) }
   gives-map f (Some x) v g = record { at = λ z e. sym (same_Some _ _ e) ∙ ap f (g.at x refl) }
 
-  gives-stages : (stages : List (List ℕ)) (n : ℕ) (most : ℤ) → most ≡ pos n → Gives (run over_stage most stages) (pos (max n (greatest (map (pressure net q) stages))))
-  unfolding run over_stage
+  gives-stages : (stages : List (List ℕ)) (n : ℕ) (most : ℤ) → most ≡ pos n → Gives (stepped over_stage most stages) (pos (max n (greatest (map (pressure net q) stages))))
+  unfolding stepped over_stage
   gives-stages [] n most e = gives-same _ _ _ (gives-some most) (let m : max n 0 ≡ n = omega arith in rw m e)
   gives-stages (stage ∷ stages) n most e =
-      gives-then (over_stage most stage) (λ t. run over_stage t stages) (pos (max n (pressure net q stage))) _
+      gives-then (over_stage most stage) (λ t. stepped over_stage t stages) (pos (max n (pressure net q stage))) _
       (gives-same _ _ _ (gives-map (greater most) (pressure_formed net p stage) (pos (pressure net q stage)) (gives-pressure stage)) (ap (λ m. greater m (pos (pressure net q stage))) e ∙ greater_pos n (pressure net q stage)))
       (λ t et. gives-same _ _ _ (gives-stages stages (max n (pressure net q stage)) t et) (let m : max (max n (pressure net q stage)) (greatest (map (pressure net q) stages)) ≡ max n (max (pressure net q stage) (greatest (map (pressure net q) stages))) = omega arith in ap pos m))
 
@@ -128,7 +128,7 @@ module _ (net : Network) (p : List ℤ) (signs : AllByRecursion (λ x. pos 0 ≤
   unfolding junction_formed stage_taken over_stage
   gives-junction j =
       let stages : List (List ℕ) = (junction_at net j).stages in
-      let same : junction_formed net p j ≡ run over_stage (pos 0) stages = by_number over_stage (stage_taken net p j) [] stages 1 (λ m s l. let back : (1 + m) - 1 ≡ m = omega arith in ap (λ i. over_stage s (get_or stages i [])) back) (pos 0) in
+      let same : junction_formed net p j ≡ stepped over_stage (pos 0) stages = by_number over_stage (stage_taken net p j) [] stages 1 (λ m s l. let back : (1 + m) - 1 ≡ m = omega arith in ap (λ i. over_stage s (get_or stages i [])) back) (pos 0) in
       subst (λ (o : Option ℤ). Gives o (pos (junction_capacity net q (junction_at net j)))) (sym same)
       (gives-same _ _ _ (gives-stages stages 0 (pos 0) refl) (let m : max 0 (greatest (map (pressure net q) stages)) ≡ greatest (map (pressure net q) stages) = omega arith in ap pos m))
 

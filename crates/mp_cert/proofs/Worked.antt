@@ -1,7 +1,7 @@
 -- Worked certificates and vectors of two approaches, each computed from the stated calculation.
 use Rattle.std.proofs.Common.{◌≡◌, ◌*◌, ◌^◌, List, [], ◌∷◌, ℤ, pos, negsuc, Some, None, Ok, Err, refl}
 use Rattle.mp_num.specs.Checked.{within}
-use Rattle.mp_num.specs.Passing.{run}
+use Rattle.mp_num.specs.Passing.{stepped}
 use Rattle.mp_model.specs.Certificate.{Cert}
 use Rattle.mp_model.specs.Worked.{two_approaches, two_approaches_at, two_approaches_cert}
 use Rattle.mp_cert.specs.Checking.{first_of, check_outcome}
@@ -40,9 +40,9 @@ record AreWorkedSums : Type 0 where
   great_load : weighed (two_approaches_at 5) (twice (pos (10 ^ 38))) ≡ None
 
 worked_faults : AreWorkedFaults
-unfolding within run first_of times plus summed at_most mass_holds part_added parts_for served_at inflow coming need balance_holds
+unfolding within stepped first_of times plus summed at_most mass_holds part_added parts_for served_at inflow coming need balance_holds
 worked_faults = record { none = refl; denominator = refl; excess = refl; rate = refl; whole = refl; part = refl; mass = refl; serve = refl; balance = refl; products = refl }
 
 worked_sums : AreWorkedSums
-unfolding within run times plus less summed brought load_formed counted weight_formed press_added pressed pressure_formed stage_taken junction_formed served_formed weighed
+unfolding within stepped times plus less summed brought load_formed counted weight_formed press_added pressed pressure_formed stage_taken junction_formed served_formed weighed
 worked_sums = record { weak = refl; tight = refl; overloaded = refl; great = refl; great_load = refl }

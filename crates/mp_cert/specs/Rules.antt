@@ -2,7 +2,7 @@
 use Rattle.std.specs.Prelude.{ℕ, ◌*◌, ℤ, pos, Bool, true, not, int_lt, if◌then◌else◌, Option, Some, option_map, option_and_then}
 use Rattle.mp_model.specs.Network.{Network, junction_at, stage_at, stage_numbers, junction_of_movement, from_of, share_of, flow_of, rate_before, into_link, has}
 use Rattle.mp_model.specs.Certificate.{Cert, int_entry, rate_of, mix_at}
-use Rattle.mp_num.specs.Passing.{run}
+use Rattle.mp_num.specs.Passing.{stepped}
 use Rattle.mp_num.specs.Operations.{times, plus, num, summed}
 use Rattle.mp_cert.specs.declared.types.CertFault.{CertFault}
 use Rattle.mp_cert.specs.declared.types.CertFault.TheVariants.{D, E, H, Whole, Part, Mass, Serve, Balance, Overflow}
@@ -25,7 +25,7 @@ part_added net cert j k sum s = if has (stage_at (junction_at net j) s) k then p
 
 -- This is the sum of the parts of the stages of junction j that hold movement k.
 unfoldable pub parts_for : Network → Cert → ℕ → ℕ → Option ℤ
-parts_for net cert j k = run (part_added net cert j k) (pos 0) (stage_numbers (junction_at net j))
+parts_for net cert j k = stepped (part_added net cert j k) (pos 0) (stage_numbers (junction_at net j))
 
 -- At junction j, the whole times the rate of movement k is at most its flow times the parts of the stages that hold it.
 unfoldable pub served_at : Network → Cert → ℕ → ℕ → Option Bool

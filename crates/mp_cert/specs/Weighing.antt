@@ -2,7 +2,7 @@
 use Rattle.std.specs.Prelude.{◌≡◌, ℕ, ℤ, pos, int_lt, if◌then◌else◌, List, Option, Some, None, option_map, option_and_then, Result, Ok, Err}
 use Rattle.mp_model.specs.Network.{Network, movement_numbers, junction_numbers, stage_numbers, junction_at, stage_at, share_of, flow_of, rate_before, downstream}
 use Rattle.mp_model.specs.Certificate.{int_entry}
-use Rattle.mp_num.specs.Passing.{run}
+use Rattle.mp_num.specs.Passing.{stepped}
 use Rattle.mp_num.specs.Operations.{times, plus, less, num, summed}
 use Rattle.mp_cert.specs.declared.types.Weighed.{Weighed}
 use Rattle.mp_cert.specs.declared.types.Overflow.{Overflow}
@@ -37,7 +37,7 @@ pressed net p sum k = option_and_then (λ weight. press_added net k sum weight) 
 
 -- The pressure of a stage is summed over its movements in the order of the stage.
 unfoldable pub pressure_formed : Network → List ℤ → List ℕ → Option ℤ
-pressure_formed net p stage = run (pressed net p) (pos 0) stage
+pressure_formed net p stage = stepped (pressed net p) (pos 0) stage
 
 -- This is the greater of two numbers.
 abbrev pub greater : ℤ → ℤ → ℤ
@@ -49,7 +49,7 @@ stage_taken net p j most s = option_map (greater most) (pressure_formed net p (s
 
 -- The capacity of junction j is the greatest pressure of its stages, which is at least 0.
 unfoldable pub junction_formed : Network → List ℤ → ℕ → Option ℤ
-junction_formed net p j = run (stage_taken net p j) (pos 0) (stage_numbers (junction_at net j))
+junction_formed net p j = stepped (stage_taken net p j) (pos 0) (stage_numbers (junction_at net j))
 
 -- What is served is the sum of the capacities of the junctions, times the rate length.
 unfoldable pub served_formed : Network → List ℤ → Option ℤ

@@ -12,6 +12,7 @@ use Rattle.mp_model.specs.Slack.{IsGreatestSlack}
 use Rattle.mp_model.specs.Stream.{LineKind}
 use Rattle.mp_model.specs.Stream.LineKind.{long_line, bad_line}
 use Rattle.mp_model.specs.WholeLog.{DiffersAt}
+use Rattle.mp_model.specs.declared.limits.TheConstants.{MOST_FILE_BYTES}
 use Rattle.mp_cert.specs.Checking.{check_outcome}
 use Rattle.mp_cert.specs.TextMeaning.{cert_meaning, vector_meaning}
 use Rattle.mp_flow.specs.declared.network.Place.TheVariants as at
@@ -37,7 +38,8 @@ use Rattle.mp_cli.specs.Running.{Streams}
 use Rattle.mp_cli.specs.Scaling.{IsUnscaled}
 use Rattle.mp_cli.specs.Sessions.{IsUnopened, IsUnaccepted}
 use Rattle.mp_cli.specs.Statuses.{status_of}
-use Rattle.mp_cli.specs.Verdicts.{numbers, IsUnadmitted, IsUnfinished, OfAdmitted}
+use Rattle.mp_press.specs.Queues.{naturals}
+use Rattle.mp_cli.specs.Verdicts.{IsUnadmitted, IsUnfinished, OfAdmitted}
 use Rattle.mp_cli.proofs.VectorLemmas.{no_sum}
 
 -- a status, unless memory ran out
@@ -75,8 +77,8 @@ network_memory NoMemory files name Q quiet good refused = refl
 network_memory outcome files name Q quiet good refused = absurd refused
 
 text_memory : {X : Type 0} (outcome : Outcome) (kind : TextKind) (meaning : List ℕ → Result X ℕ) (files : Files) (name : List ℕ) (Q : X → Type 0) → IsQuiet outcome → IsGoodText meaning files name Q → RefusesText outcome kind meaning files name → status_of outcome ≡ 12
-text_memory (Text is n) kind meaning files name Q quiet good refused = absurd (let no = sym (of_there (λ bytes. (length bytes ≤ 1048576) × (meaning bytes ≡ Err n)) good.file refused.1).1 ∙ good.file.means in cc)
-text_memory (LongText is) kind meaning files name Q quiet good refused = absurd (let long = of_there (λ bytes. 1048576 < length bytes) good.file refused.1 in let few = good.few in omega arith)
+text_memory (Text is n) kind meaning files name Q quiet good refused = absurd (let no = sym (of_there (λ bytes. (length bytes ≤ MOST_FILE_BYTES) × (meaning bytes ≡ Err n)) good.file refused.1).1 ∙ good.file.means in cc)
+text_memory (LongText is) kind meaning files name Q quiet good refused = absurd (let long = of_there (λ bytes. MOST_FILE_BYTES < length bytes) good.file refused.1 in let few = good.few in omega arith)
 text_memory (Store file.Other) kind meaning files name Q quiet good refused = absurd (quiet.store refl)
 text_memory NoMemory kind meaning files name Q quiet good refused = refl
 text_memory outcome kind meaning files name Q quiet good refused = absurd refused
@@ -111,7 +113,7 @@ cert_memory (Overflow at.Certificate) net cert good refused = absurd (let no = s
 cert_memory outcome net cert good refused = absurd refused
 
 -- a vector that speaks against the network is not all 0, and its load is not below
-not_zero : (net : Network) (p : List ℤ) → ShowsOverload net (numbers p) ⊎ IsTight net (numbers p) → IsZero p → ⊥
+not_zero : (net : Network) (p : List ℤ) → ShowsOverload net (naturals p) ⊎ IsTight net (naturals p) → IsZero p → ⊥
 not_zero net p (inl shows) zero = absurd (let some = shows.vector.some in omega (arith, some, no_sum net p zero))
 not_zero net p (inr tight) zero = absurd (let some = tight.vector.some in omega (arith, some, no_sum net p zero))
 
@@ -121,7 +123,7 @@ not_weak net p (inr tight) below = absurd (let equal = tight.equal in omega arit
 
 vector_memory : (outcome : Outcome) (net : Network) (p : List ℤ) → IsGoodVector net p → ShowsNothing outcome net p → status_of outcome ≡ 12
 vector_memory ZeroVector net p good refused = absurd (not_zero net p good.shows refused)
-vector_memory WeakVector net p good refused = absurd (not_weak net (numbers p) good.shows refused.1.below)
+vector_memory WeakVector net p good refused = absurd (not_weak net (naturals p) good.shows refused.1.below)
 vector_memory (Overflow at.Vector) net p good refused = absurd (let no = sym refused.1 ∙ good.formed.1 in cc)
 vector_memory outcome net p good refused = absurd refused
 

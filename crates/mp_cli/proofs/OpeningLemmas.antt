@@ -4,6 +4,7 @@ use Rattle.std.proofs.lemmas.Bool.Decides.{nat_tests}
 use Rattle.std.specs.Prelude.{nat_lt}
 use Rattle.mp_edge.specs.Outside.{Tells, OfFile}
 use Rattle.mp_edge.proofs.Told.{OfFile-weaker}
+use Rattle.mp_model.specs.declared.limits.TheConstants.{MOST_FILE_BYTES}
 use Rattle.mp_net.specs.declared.fault.NetRule.{NetRule}
 use Rattle.mp_net.specs.declared.fault.NetRule.TheVariants as rule
 use Rattle.mp_net.specs.declared.fault.Section.TheVariants as section
@@ -17,34 +18,34 @@ use Rattle.mp_cli.specs.Opening.{Reads, RefusesText, IsUnread}
 use Rattle.mp_cli.specs.Ports.{Files}
 
 -- a long file breaks the first rule
-long_file : (bytes : List ℕ) → 1048576 < length bytes → file_meaning bytes ≡ Err (rule.TooLong, record { section = section.Top; number = 0 })
+long_file : (bytes : List ℕ) → MOST_FILE_BYTES < length bytes → file_meaning bytes ≡ Err (rule.TooLong, record { section = section.Top; number = 0 })
 long_file bytes long =
-    let past : nat_lt 1048576 (length bytes) ≡ true = grind (arith, nat_tests) in
+    let past : nat_lt MOST_FILE_BYTES (length bytes) ≡ true = grind (arith, nat_tests) in
     rw past refl
 
-pub long_refused : (files : Files) (name : List ℕ) → OfFile files name (λ bytes. 1048576 < length bytes) → OfFile files name (λ bytes. file_meaning bytes ≡ Err (rule.TooLong, record { section = section.Top; number = 0 }))
-long_refused files name told = OfFile-weaker files name (λ bytes. 1048576 < length bytes) (λ bytes. file_meaning bytes ≡ Err (rule.TooLong, record { section = section.Top; number = 0 })) long_file told
+pub long_refused : (files : Files) (name : List ℕ) → OfFile files name (λ bytes. MOST_FILE_BYTES < length bytes) → OfFile files name (λ bytes. file_meaning bytes ≡ Err (rule.TooLong, record { section = section.Top; number = 0 }))
+long_refused files name told = OfFile-weaker files name (λ bytes. MOST_FILE_BYTES < length bytes) (λ bytes. file_meaning bytes ≡ Err (rule.TooLong, record { section = section.Top; number = 0 })) long_file told
 
 -- what was read of a file
-pub reads_value : {X E : Type 0} (meaning : List ℕ → Result X E) (files : Files) (name into : List ℕ) (value : X) → OfFile files name (λ bytes. (into ≡ bytes) × (length bytes ≤ 1048576)) → length into ≤ 1048576 → meaning into ≡ Ok value → Reads meaning files name (λ v. v ≡ value)
+pub reads_value : {X E : Type 0} (meaning : List ℕ → Result X E) (files : Files) (name into : List ℕ) (value : X) → OfFile files name (λ bytes. (into ≡ bytes) × (length bytes ≤ MOST_FILE_BYTES)) → length into ≤ MOST_FILE_BYTES → meaning into ≡ Ok value → Reads meaning files name (λ v. v ≡ value)
 reads_value meaning files name into value told few is = record {
   bytes = into;
-  there = OfFile-weaker files name (λ bytes. (into ≡ bytes) × (length bytes ≤ 1048576)) (λ bytes. bytes ≡ into) (λ bytes read. sym read.0) told;
+  there = OfFile-weaker files name (λ bytes. (into ≡ bytes) × (length bytes ≤ MOST_FILE_BYTES)) (λ bytes. bytes ≡ into) (λ bytes read. sym read.0) told;
   few = few;
   value = value;
   means = is;
   is = refl;
 }
 
-pub rule_read : (files : Files) (name into : List ℕ) (broken : NetRule) (spot : Spot) → OfFile files name (λ bytes. (into ≡ bytes) × (length bytes ≤ 1048576)) → file_meaning into ≡ Err (broken, spot)
+pub rule_read : (files : Files) (name into : List ℕ) (broken : NetRule) (spot : Spot) → OfFile files name (λ bytes. (into ≡ bytes) × (length bytes ≤ MOST_FILE_BYTES)) → file_meaning into ≡ Err (broken, spot)
     → OfFile files name (λ bytes. file_meaning bytes ≡ Err (broken, spot))
 rule_read files name into broken spot told is =
-    OfFile-weaker files name (λ bytes. (into ≡ bytes) × (length bytes ≤ 1048576)) (λ bytes. file_meaning bytes ≡ Err (broken, spot)) (λ bytes read. ap file_meaning (sym read.0) ∙ is) told
+    OfFile-weaker files name (λ bytes. (into ≡ bytes) × (length bytes ≤ MOST_FILE_BYTES)) (λ bytes. file_meaning bytes ≡ Err (broken, spot)) (λ bytes read. ap file_meaning (sym read.0) ∙ is) told
 
-pub line_read : {X : Type 0} (meaning : List ℕ → Result X ℕ) (files : Files) (name into : List ℕ) (n : ℕ) → OfFile files name (λ bytes. (into ≡ bytes) × (length bytes ≤ 1048576)) → meaning into ≡ Err n
-    → OfFile files name (λ bytes. (length bytes ≤ 1048576) × (meaning bytes ≡ Err n))
+pub line_read : {X : Type 0} (meaning : List ℕ → Result X ℕ) (files : Files) (name into : List ℕ) (n : ℕ) → OfFile files name (λ bytes. (into ≡ bytes) × (length bytes ≤ MOST_FILE_BYTES)) → meaning into ≡ Err n
+    → OfFile files name (λ bytes. (length bytes ≤ MOST_FILE_BYTES) × (meaning bytes ≡ Err n))
 line_read meaning files name into n told is =
-    OfFile-weaker files name (λ bytes. (into ≡ bytes) × (length bytes ≤ 1048576)) (λ bytes. (length bytes ≤ 1048576) × (meaning bytes ≡ Err n)) (λ bytes read. (read.1, ap meaning (sym read.0) ∙ is)) told
+    OfFile-weaker files name (λ bytes. (into ≡ bytes) × (length bytes ≤ MOST_FILE_BYTES)) (λ bytes. (length bytes ≤ MOST_FILE_BYTES) × (meaning bytes ≡ Err n)) (λ bytes read. (read.1, ap meaning (sym read.0) ∙ is)) told
 
 -- a text that was not read is refused as that
 pub unread_refused : {X : Type 0} (outcome : Outcome) (kind : TextKind) (meaning : List ℕ → Result X ℕ) (files : Files) (other : List ℕ) → IsUnread outcome kind files other → RefusesText outcome kind meaning files other
@@ -72,8 +73,8 @@ reads_before meaning files later name P same reads = record {
 
 pub text_before : {X : Type 0} (outcome : Outcome) (kind : TextKind) (meaning : List ℕ → Result X ℕ) (files later : Files) (other : List ℕ) → Tells files later (λ was now. now ≡ was)
     → RefusesText outcome kind meaning later other → RefusesText outcome kind meaning files other
-text_before (Text is n) kind meaning files later other same refused = (refused.0, of_before files later other (λ bytes. (length bytes ≤ 1048576) × (meaning bytes ≡ Err n)) same refused.1)
-text_before (LongText is) kind meaning files later other same refused = (refused.0, of_before files later other (λ bytes. 1048576 < length bytes) same refused.1)
+text_before (Text is n) kind meaning files later other same refused = (refused.0, of_before files later other (λ bytes. (length bytes ≤ MOST_FILE_BYTES) × (meaning bytes ≡ Err n)) same refused.1)
+text_before (LongText is) kind meaning files later other same refused = (refused.0, of_before files later other (λ bytes. MOST_FILE_BYTES < length bytes) same refused.1)
 text_before (Store file.Other) kind meaning files later other same refused = tt
 text_before NoMemory kind meaning files later other same refused = tt
 text_before outcome kind meaning files later other same refused = absurd refused

@@ -13,7 +13,7 @@ use Rattle.mp_model.specs.NetworkRules.{IsNetwork}
 use Rattle.mp_model.specs.Slack.{IsSlack, IsGreatestSlack}
 use Rattle.mp_laws.proofs.Slacks.{lowest_unique}
 use Rattle.mp_laws.proofs.Tied.{slack_is, excess_is, tight, margin_of}
-use Rattle.mp_num.specs.Fraction.{Fraction}
+use Rattle.mp_num.specs.Fraction.{Fraction, numerator, denominator}
 use Rattle.mp_flow.specs.declared.network.CalcFault.TheVariants as calc
 use Rattle.mp_flow.specs.declared.network.Place.TheVariants as at
 use Rattle.mp_cert.specs.Checking.{check_outcome}
@@ -21,7 +21,7 @@ use Rattle.mp_cert.specs.declared.types.CertFault.{CertFault}
 use Rattle.mp_cert.specs.declared.types.CertFault.TheVariants as fault
 use Rattle.mp_cert.proofs.CheckLaw.{first_fault, complete}
 use Rattle.mp_verdict.specs.Laws.{IsAdmitted}
-use Rattle.mp_drift.specs.Bounded.{excess, denominator, FindsGreatest}
+use Rattle.mp_drift.specs.Bounded.{FindsGreatest}
 use Rattle.mp_drift.specs.Session.{IsRefused, Bounded, IsBounded}
 use Rattle.mp_press.specs.Queues.{naturals}
 use Rattle.mp_run.proofs.BoundLemmas.{naturals_are, stays_within}
@@ -38,7 +38,7 @@ use Rattle.mp_cli.specs.Outcomes.{outcome_of_opening, outcome_of_fault, outcome_
 use Rattle.mp_cli.specs.Demonstrating.{IsShownRun}
 use Rattle.mp_cli.specs.Ports.{Ports, IsUntouched, Answers}
 use Rattle.mp_cli.specs.Sessions.{HoldsWith, IsUnopened, IsUnaccepted, Opens, OnSession, OnAnySession, AtGreatest}
-use Rattle.mp_cli.specs.Verdicts.{numbers, IsUnadmitted, IsUnfinished, OfAdmitted, HasGreatestSlack}
+use Rattle.mp_cli.specs.Verdicts.{IsUnadmitted, IsUnfinished, OfAdmitted, HasGreatestSlack}
 
 -- equal fractions have equal cross products
 crossed : (e d E D E' D' : ℕ) → 1 ≤ d → e * D ≡ E * d → e * D' ≡ E' * d → E * D' ≡ E' * D
@@ -101,8 +101,8 @@ not_overloaded net network cert certifies p shows =
 
 -- a demonstration network is certified, and so neither critical nor overloaded
 pub demo_unfinished : (outcome : Outcome) (net : Network) → IsNetwork net → (cert : Cert) × Certifies net cert → IsUnadmitted outcome net → IsUnfinished outcome net
-demo_unfinished (Critical against) net network certified is = absurd (tight net network (numbers against.p) is.tight certified.0 certified.1)
-demo_unfinished (Overloaded against) net network certified is = absurd (not_overloaded net network certified.0 certified.1 (numbers against.p) is.shows)
+demo_unfinished (Critical against) net network certified is = absurd (tight net network (naturals against.p) is.tight certified.0 certified.1)
+demo_unfinished (Overloaded against) net network certified is = absurd (not_overloaded net network certified.0 certified.1 (naturals against.p) is.shows)
 demo_unfinished outcome net network certified is = is
 
 -- why a certificate is not accepted
@@ -148,29 +148,29 @@ opens_with net cert num den bounds stood P is = record {
 }
 
 -- what a session stands for behind its opening
-pub stood_of : (net : Network) (cert : Cert) (s : Bounded) → IsBounded s → s.net ≡ net → check_outcome net cert ≡ Ok tt → Certifies net cert → IsSlack cert (excess s.slack) (denominator s.slack) → FindsGreatest net (excess s.slack) (denominator s.slack) → Stood net cert (excess s.slack) (denominator s.slack) (naturals s.bounds)
+pub stood_of : (net : Network) (cert : Cert) (s : Bounded) → IsBounded s → s.net ≡ net → check_outcome net cert ≡ Ok tt → Certifies net cert → IsSlack cert (numerator s.slack) (denominator s.slack) → FindsGreatest net (numerator s.slack) (denominator s.slack) → Stood net cert (numerator s.slack) (denominator s.slack) (naturals s.bounds)
 stood_of net cert s bounded same checked certifies slack found =
     let list : naturals s.bounds ≡ bounded.bounds.bounds = ap naturals bounded.bounds.listed ∙ naturals_are bounded.bounds.bounds in
-    let are = subst (λ (n : Network). AreBounds n (excess s.slack) (denominator s.slack) bounded.bounds.bounds) same bounded.bounds.are in
+    let are = subst (λ (n : Network). AreBounds n (numerator s.slack) (denominator s.slack) bounded.bounds.bounds) same bounded.bounds.are in
     record {
       checked = checked;
       certifies = certifies;
       slack = slack;
       found = found;
-      are = subst (λ (bounds : List ℕ). AreBounds net (excess s.slack) (denominator s.slack) bounds) (sym list) are;
+      are = subst (λ (bounds : List ℕ). AreBounds net (numerator s.slack) (denominator s.slack) bounds) (sym list) are;
       room = subst HasRoom (sym list) bounded.bounds.room;
       within = subst (λ (n : Network). (A : List (List ℕ)) → IsPermitted n A → StaysWithin n (naturals s.bounds) A) same (stays_within s bounded);
     }
 
 -- the header of a session is that of its parts
-pub header_same : (n net : Network) (f slack : Fraction) (b bounds : List ℤ) → n ≡ net → f ≡ slack → b ≡ bounds → text_of (header_lines n (excess f) (denominator f) (naturals b)) ≡ text_of (header_lines net (excess slack) (denominator slack) (naturals bounds))
+pub header_same : (n net : Network) (f slack : Fraction) (b bounds : List ℤ) → n ≡ net → f ≡ slack → b ≡ bounds → text_of (header_lines n (numerator f) (denominator f) (naturals b)) ≡ text_of (header_lines net (numerator slack) (denominator slack) (naturals bounds))
 header_same n net f slack b bounds one two three =
-    ap (λ (m : Network). text_of (header_lines m (excess f) (denominator f) (naturals b))) one ∙ ap (λ (x : Fraction). text_of (header_lines net (excess x) (denominator x) (naturals b))) two
-    ∙ ap (λ (ns : List ℤ). text_of (header_lines net (excess slack) (denominator slack) (naturals ns))) three
+    ap (λ (m : Network). text_of (header_lines m (numerator f) (denominator f) (naturals b))) one ∙ ap (λ (x : Fraction). text_of (header_lines net (numerator x) (denominator x) (naturals b))) two
+    ∙ ap (λ (ns : List ℤ). text_of (header_lines net (numerator slack) (denominator slack) (naturals ns))) three
 
 -- the summary of a demonstration is that of its run under the certificate
-pub shown_run : (net : Network) (cert : Cert) (n : ℕ) (s s' : Bounded) (greatest : ℕ) (outcome : Outcome) (ports : Ports) → Stood net cert (excess s.slack) (denominator s.slack) (naturals s.bounds) → s.net ≡ net → s' ≡ record s { at = s'.at; stages = s'.stages }
-    → Demonstrated s.net n s'.at greatest → ((shown : Demonstrated s'.net n s'.at greatest) → Answers outcome ports (demo_summary n s'.net (excess s'.slack) (denominator s'.slack) (naturals s'.bounds) shown.arrivals)) → Opens net (IsShownRun outcome net n ports) cert
+pub shown_run : (net : Network) (cert : Cert) (n : ℕ) (s s' : Bounded) (greatest : ℕ) (outcome : Outcome) (ports : Ports) → Stood net cert (numerator s.slack) (denominator s.slack) (naturals s.bounds) → s.net ≡ net → s' ≡ record s { at = s'.at; stages = s'.stages }
+    → Demonstrated s.net n s'.at greatest → ((shown : Demonstrated s'.net n s'.at greatest) → Answers outcome ports (demo_summary n s'.net (numerator s'.slack) (denominator s'.slack) (naturals s'.bounds) shown.arrivals)) → Opens net (IsShownRun outcome net n ports) cert
 shown_run net cert n s s' greatest outcome ports stood on same shown told =
     let net_same : s'.net ≡ s.net = ap (λ (b : Bounded). b.net) same in
     let slack_kept : s'.slack ≡ s.slack = ap (λ (b : Bounded). b.slack) same in
@@ -178,8 +178,8 @@ shown_run net cert n s s' greatest outcome ports stood on same shown told =
     let there : Demonstrated s'.net n s'.at greatest = subst (λ (m : Network). Demonstrated m n s'.at greatest) (sym net_same) shown in
     let A = there.arrivals in
     let written =
-    subst (λ (m : Network). Answers outcome ports (demo_summary n m (excess s.slack) (denominator s.slack) (naturals s.bounds) A)) (net_same ∙ on)
-    (subst (λ (f : Fraction). Answers outcome ports (demo_summary n s'.net (excess f) (denominator f) (naturals s.bounds) A)) slack_kept
-    (subst (λ (bounds : List ℤ). Answers outcome ports (demo_summary n s'.net (excess s'.slack) (denominator s'.slack) (naturals bounds) A)) bounds_same (told there))) in
-    opens_with net cert (excess s.slack) (denominator s.slack) (naturals s.bounds) stood (IsShownRun outcome net n ports)
+    subst (λ (m : Network). Answers outcome ports (demo_summary n m (numerator s.slack) (denominator s.slack) (naturals s.bounds) A)) (net_same ∙ on)
+    (subst (λ (f : Fraction). Answers outcome ports (demo_summary n s'.net (numerator f) (denominator f) (naturals s.bounds) A)) slack_kept
+    (subst (λ (bounds : List ℤ). Answers outcome ports (demo_summary n s'.net (numerator s'.slack) (denominator s'.slack) (naturals bounds) A)) bounds_same (told there))) in
+    opens_with net cert (numerator s.slack) (denominator s.slack) (naturals s.bounds) stood (IsShownRun outcome net n ports)
     (record { arrivals = A; periods = there.periods; drawn = there.drawn; permitted = subst (λ (m : Network). IsPermitted m A) (net_same ∙ on) there.permitted; answers = written })

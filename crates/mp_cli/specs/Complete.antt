@@ -1,5 +1,5 @@
 -- When a command must do what was asked.
-use Rattle.std.specs.Prelude.{◌≡◌, ◌≤◌, ◌⊎◌, ◌^◌, ℕ, ℤ, List, [], length, Option, Result, Some, Ok}
+use Rattle.std.specs.Prelude.{◌≡◌, ◌≤◌, ◌⊎◌, ℕ, ℤ, List, [], length, Option, Result, Some, Ok}
 use Rattle.mp_edge.specs.Outside.{file_named}
 use Rattle.mp_model.specs.Arrivals.{IsPermitted}
 use Rattle.mp_model.specs.Bounds.{AreBounds}
@@ -9,6 +9,7 @@ use Rattle.mp_model.specs.Network.{Network}
 use Rattle.mp_model.specs.Slack.{IsGreatestSlack}
 use Rattle.mp_model.specs.Stream.{LineKind, arrivals_of_kinds}
 use Rattle.mp_model.specs.WholeLog.{IsWholeLog}
+use Rattle.mp_model.specs.declared.limits.TheConstants.{MOST_FILE_BYTES, MOST_LINES}
 use Rattle.mp_cert.specs.Checking.{check_outcome}
 use Rattle.mp_cert.specs.TextMeaning.{cert_meaning, vector_meaning}
 use Rattle.mp_cert.specs.Weighing.{weighed}
@@ -23,7 +24,7 @@ use Rattle.mp_cli.specs.Commands.{Command, Run, RunWith, Show, Certify, Check, R
 use Rattle.mp_cli.specs.Ports.{Files}
 use Rattle.mp_cli.specs.Refuting.{IsFormed}
 use Rattle.mp_cli.specs.Sessions.{HasBounds}
-use Rattle.mp_cli.specs.Verdicts.{numbers}
+use Rattle.mp_press.specs.Queues.{naturals}
 
 -- The files are told, one has that name, its bytes mean a value, and the fact is true of it.
 pub record IsGoodFile {X E : Type 0} (meaning : List ℕ → Result X E) (files : Files) (name : List ℕ) (P : X → Type 0) : Type 0 where
@@ -38,7 +39,7 @@ pub record IsGoodFile {X E : Type 0} (meaning : List ℕ → Result X E) (files 
 -- The files are told, and one has that name and at most 1,048,576 bytes, which mean a value of which the fact is true.
 pub record IsGoodText {X E : Type 0} (meaning : List ℕ → Result X E) (files : Files) (name : List ℕ) (P : X → Type 0) : Type 0 where
   pub file : IsGoodFile meaning files name P
-  pub few : length file.bytes ≤ 1048576
+  pub few : length file.bytes ≤ MOST_FILE_BYTES
 
 -- The input is told, has at most 2^48 lines, each of them skipped or of arrivals, and these arrivals are permitted.
 pub record IsGoodStream (net : Network) (left : Option (List ℕ)) : Type 0 where
@@ -46,7 +47,7 @@ pub record IsGoodStream (net : Network) (left : Option (List ℕ)) : Type 0 wher
   pub told : left ≡ Some text
   pub kinds : List LineKind
   pub lines : StartsWith net text kinds []
-  pub few : length kinds ≤ 2 ^ 48
+  pub few : length kinds ≤ MOST_LINES
   pub permitted : IsPermitted net (arrivals_of_kinds kinds)
 
 -- The input is told, and is above a bucket at one of its first 2^48 lines.
@@ -54,7 +55,7 @@ pub record IsExcessiveStream (net : Network) (left : Option (List ℕ)) : Type 0
   pub text : List ℕ
   pub told : left ≡ Some text
   pub line : ℕ
-  pub few : line ≤ 2 ^ 48
+  pub few : line ≤ MOST_LINES
   pub period : ℕ
   pub link : ℕ
   pub above : IsAboveAt net text line period link
@@ -73,7 +74,7 @@ pub record IsRunnableCert (net : Network) (cert : Cert) : Type 0 where
 -- No calculation of the sums of a vector exceeds 128 bits, and it shows an overload or is tight.
 pub record IsGoodVector (net : Network) (p : List ℤ) : Type 0 where
   pub formed : IsFormed net p
-  pub shows : ShowsOverload net (numbers p) ⊎ IsTight net (numbers p)
+  pub shows : ShowsOverload net (naturals p) ⊎ IsTight net (naturals p)
 
 -- The stated calculation of the verdict admits the network: nothing exceeds 128 bits, and the greatest slack is above 0.
 pub record IsAdmittable (net : Network) : Type 0 where

@@ -1,8 +1,9 @@
 -- What `demo` promises.
-use Rattle.std.specs.Prelude.{◌≡◌, ◌^◌, ℕ, List, length}
+use Rattle.std.specs.Prelude.{◌≡◌, ℕ, List, length}
 use Rattle.mp_model.specs.Arrivals.{IsPermitted}
 use Rattle.mp_model.specs.Certificate.{Cert}
 use Rattle.mp_model.specs.Network.{Network}
+use Rattle.mp_gen.specs.declared.demonstration.TheConstants.{PERIODS}
 use Rattle.mp_gen.specs.DemoArrivals.{IsDemonstration}
 use Rattle.mp_gen.specs.DemoNetwork.{demo_network}
 use Rattle.mp_gen.specs.DemoText.{demo_summary}
@@ -14,7 +15,7 @@ use Rattle.mp_cli.specs.Verdicts.{IsUnfinished, OfAdmitted}
 -- The arrivals of a demonstration over 2^20 periods are permitted, and the text of their run under a slack was put.
 pub record IsShownRun (outcome : Outcome) (net : Network) (n : ℕ) (ports : Ports) (num den : ℕ) (bounds : List ℕ) : Type 0 where
   pub arrivals : List (List ℕ)
-  pub periods : length arrivals ≡ 2 ^ 20
+  pub periods : length arrivals ≡ PERIODS
   pub drawn : IsDemonstration n arrivals
   pub permitted : IsPermitted net arrivals
   pub answers : Answers outcome ports (demo_summary n net num den bounds arrivals)

@@ -17,7 +17,7 @@ use Rattle.mp_cli.specs.Commands.{Command, Run, RunWith, Show, Certify, Check, R
 use Rattle.mp_cli.specs.Opening.{Reads}
 use Rattle.mp_cli.specs.Ports.{Ports}
 use Rattle.mp_cli.specs.Sessions.{HoldsWith, HoldsWithGreatest}
-use Rattle.mp_cli.specs.Verdicts.{numbers}
+use Rattle.mp_press.specs.Queues.{naturals}
 use Rattle.mp_cli.specs.Showing.{ShowsText}
 use Rattle.mp_cli.specs.Certifying.{WritesGreatest}
 use Rattle.mp_cli.specs.Checking.{AcceptsCert}
@@ -37,7 +37,7 @@ Does (RunWith net cert) ports = Reads file_meaning ports.files net (λ n. Reads 
 Does (Show net) ports = Reads file_meaning ports.files net (λ n. ShowsText Done n ports)
 Does (Certify net) ports = Reads file_meaning ports.files net (λ n. (cert : Cert) × WritesGreatest Done n ports cert)
 Does (Check net cert) ports = Reads file_meaning ports.files net (λ n. Reads (cert_meaning n) ports.files cert (AcceptsCert Done n ports))
-Does (Refute net vector) ports = Reads file_meaning ports.files net (λ n. Reads (vector_meaning n) ports.files vector (λ p. SpeaksAgainst Done n ports (numbers p)))
+Does (Refute net vector) ports = Reads file_meaning ports.files net (λ n. Reads (vector_meaning n) ports.files vector (λ p. SpeaksAgainst Done n ports (naturals p)))
 Does (Audit net) ports = Reads file_meaning ports.files net (λ n. HoldsWithGreatest n (IsShownWhole Done n ports))
 Does (Demo n) ports = HoldsWithGreatest (demo_network n) (IsShownRun Done (demo_network n) n ports)
 Does (Scale net d) ports = Reads file_meaning ports.files net (λ n. (cert : Cert) × WritesScaled Done n d ports cert)

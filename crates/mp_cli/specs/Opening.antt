@@ -4,6 +4,7 @@ use Rattle.mp_edge.specs.Outside.{OfFile}
 use Rattle.mp_model.specs.Certificate.{Cert}
 use Rattle.mp_model.specs.Network.{Network}
 use Rattle.mp_model.specs.NetworkRules.{IsAcceptable}
+use Rattle.mp_model.specs.declared.limits.TheConstants.{MOST_FILE_BYTES}
 use Rattle.mp_cert.specs.TextMeaning.{cert_meaning, vector_meaning}
 use Rattle.mp_netfile.specs.Meaning.{file_meaning}
 use Rattle.mp_cli.specs.declared.outcome.FileRole.TheVariants as file
@@ -17,7 +18,7 @@ use Rattle.mp_cli.specs.Ports.{Files, Ports, RefusedOr}
 pub record Reads {X E : Type 0} (meaning : List ℕ → Result X E) (files : Files) (name : List ℕ) (P : X → Type 0) : Type 0 where
   pub bytes : List ℕ
   pub there : OfFile files name (λ told. told ≡ bytes)
-  pub few : length bytes ≤ 1048576
+  pub few : length bytes ≤ MOST_FILE_BYTES
   pub value : X
   pub means : meaning bytes ≡ Ok value
   pub is : P value
@@ -35,14 +36,14 @@ OnNetwork outcome name ports P = RefusedOr (RefusesNetwork outcome ports.files n
 
 -- The other file is not read where it is longer than 1,048,576 bytes, by a fault of the store, or since memory ran out.
 abbrev pub IsUnread : Outcome → TextKind → Files → List ℕ → Type 0
-IsUnread (LongText is) kind files other = (is ≡ kind) × OfFile files other (λ bytes. 1048576 < length bytes)
+IsUnread (LongText is) kind files other = (is ≡ kind) × OfFile files other (λ bytes. MOST_FILE_BYTES < length bytes)
 IsUnread (Store file.Other) kind files other = Unit {0}
 IsUnread NoMemory kind files other = Unit {0}
 IsUnread outcome kind files other = ⊥
 
 -- A text of at most 1,048,576 bytes is refused by its first line that is not in the grammar; else it was not read.
 abbrev pub RefusesText : {X : Type 0} → Outcome → TextKind → (List ℕ → Result X ℕ) → Files → List ℕ → Type 0
-RefusesText (Text is n) kind meaning files other = (is ≡ kind) × OfFile files other (λ bytes. (length bytes ≤ 1048576) × (meaning bytes ≡ Err n))
+RefusesText (Text is n) kind meaning files other = (is ≡ kind) × OfFile files other (λ bytes. (length bytes ≤ MOST_FILE_BYTES) × (meaning bytes ≡ Err n))
 RefusesText outcome kind meaning files other = IsUnread outcome kind files other
 
 -- A command on the certificate of the other file: the file is refused, or the fact is true of the certificate.

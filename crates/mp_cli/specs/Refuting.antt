@@ -11,7 +11,7 @@ use Rattle.mp_cli.specs.declared.outcome.Outcome.{Outcome}
 use Rattle.mp_cli.specs.declared.outcome.Outcome.TheVariants.{ZeroVector, WeakVector, Overflow}
 use Rattle.mp_cli.specs.Opening.{OnNetwork, OnVector}
 use Rattle.mp_cli.specs.Ports.{Ports, Answers, RefusedOr}
-use Rattle.mp_cli.specs.Verdicts.{numbers}
+use Rattle.mp_press.specs.Queues.{naturals}
 
 -- This is the line of a word and two sums: the load, and the rate length times the capacity.
 abbrev pub sums_line : List ℕ → ℕ → ℕ → List ℕ
@@ -47,8 +47,8 @@ IsZero p = All (λ n. n ≡ pos 0) p
 
 -- The load of a vector is below the rate length times the capacity.
 pub record IsWeak (net : Network) (p : List ℤ) : Type 0 where
-  pub vector : IsVector net (numbers p)
-  pub below : load net (entry (numbers p)) < net.per * capacity net (entry (numbers p))
+  pub vector : IsVector net (naturals p)
+  pub below : load net (entry (naturals p)) < net.per * capacity net (entry (naturals p))
 
 -- A vector shows nothing: all its numbers are 0, or its load is below the capacity, or a calculation of its sums exceeds 128 bits.
 abbrev pub ShowsNothing : Outcome → Network → List ℤ → Type 0
@@ -62,4 +62,4 @@ abbrev pub Refutes : Outcome → List ℕ → List ℕ → Ports → Type 0
 Refutes outcome name other ports =
     OnNetwork outcome name ports (λ net.
     OnVector outcome net other ports (λ p.
-    RefusedOr (ShowsNothing outcome net p) ports (IsFormed net p × SpeaksAgainst outcome net ports (numbers p))))
+    RefusedOr (ShowsNothing outcome net p) ports (IsFormed net p × SpeaksAgainst outcome net ports (naturals p))))

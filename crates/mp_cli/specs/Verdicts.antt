@@ -4,6 +4,7 @@ use Rattle.mp_model.specs.Certificate.{Cert, Certifies, Carries}
 use Rattle.mp_model.specs.Load.{ShowsOverload, IsTight, IsCritical}
 use Rattle.mp_model.specs.Network.{Network}
 use Rattle.mp_model.specs.Slack.{IsSlack, IsGreatestSlack}
+use Rattle.mp_press.specs.Queues.{naturals}
 use Rattle.mp_cert.specs.Weighing.{weighed}
 use Rattle.mp_num.specs.Fraction.{Fraction}
 use Rattle.mp_verdict.specs.Laws.{IsAdmitted}
@@ -14,14 +15,10 @@ use Rattle.mp_cli.specs.declared.outcome.Outcome.{Outcome}
 use Rattle.mp_cli.specs.declared.outcome.Outcome.TheVariants.{Critical, Overloaded, Overflow, PivotLimit, NoMemory}
 use Rattle.mp_cli.specs.Ports.{Ports, RefusedOr}
 
--- These are the numbers of a vector, none of which is below 0.
-abbrev pub numbers : List ℤ → List ℕ
-numbers p = map unsigned_abs p
-
 -- A network is critical, as the vector of the stated calculation shows: its rates are carried, and no certificate certifies it.
 pub record IsShownCritical (net : Network) (vector : List ℤ) : Type 0 where
   pub reached : verdict net (weighed net) ≡ Reached (judged.Critical vector)
-  pub tight : IsTight net (numbers vector)
+  pub tight : IsTight net (naturals vector)
   pub critical : IsCritical net
   pub carried : Carries net
   pub none : (cert : Cert) → ¬ Certifies net cert
@@ -29,7 +26,7 @@ pub record IsShownCritical (net : Network) (vector : List ℤ) : Type 0 where
 -- A network is overloaded, as the vector of the stated calculation shows, and so does not carry its rates.
 pub record IsShownOverloaded (net : Network) (vector : List ℤ) : Type 0 where
   pub reached : verdict net (weighed net) ≡ Reached (judged.Overloaded vector)
-  pub shows : ShowsOverload net (numbers vector)
+  pub shows : ShowsOverload net (naturals vector)
   pub none : ¬ Carries net
 
 -- The stated calculation has no verdict: it exceeds 128 bits or comes to its limit of turns, or memory ran out.

@@ -3,6 +3,7 @@ ghost use Rattle.std.specs.Prelude.{◌≡◌, ◌≤◌, IfOk, IfErr, length};
 ghost use Rattle.mp_edge.specs.Outside.{Rose, Tells, OfFile};
 ghost use Rattle.mp_model.specs.Certificate.{HasLengths};
 ghost use Rattle.mp_model.specs.NetworkRules.{IsAcceptable};
+ghost use Rattle.mp_model.specs.declared.limits.TheConstants.{MOST_FILE_BYTES};
 ghost use Rattle.mp_cert.specs.TextMeaning.{cert_meaning, vector_meaning, AreNatural, IsNatural};
 ghost use Rattle.mp_cert.specs.Views.{cert_of};
 ghost use Rattle.mp_netfile.specs.Meaning.{file_meaning};
@@ -12,12 +13,10 @@ ghost use Rattle.mp_cli.specs.Statuses.{status_of, HasNoPortFault};
 use crate::outcome::{FileRole, Outcome, TextKind};
 use mp_cert::{Against, Cert, TextFault, read_against, read_cert};
 use mp_edge::{Store, StoreFault};
+use mp_model::limits::MOST_FILE_BYTES;
 use mp_net::{Net, NetFault, NetRule, Section, Spot};
 use mp_netfile::read_net;
 use std::alloc::Global;
-
-/// The greatest length of a file.
-const MOST_BYTES: usize = 1_048_576;
 
 /// Reads the network of the file.
 pub fn open_net<St: Store>(alloc: Global, name: &str, store: &mut St) -> Result<Net, Outcome>
@@ -31,7 +30,7 @@ pub fn open_net<St: Store>(alloc: Global, name: &str, store: &mut St) -> Result<
     ensures store { IfErr result (λ outcome. status_of outcome ≡ 2 → Rose (St.faults store.old) (St.faults store.new)) }
 {
     let mut bytes = Vec::new(alloc);
-    match store.read(alloc, name, &mut bytes, MOST_BYTES) {
+    match store.read(alloc, name, &mut bytes, MOST_FILE_BYTES) {
         Ok(()) => {}
         Err(StoreFault::TooLong) => {
             return Err(Outcome::Network {
@@ -63,15 +62,15 @@ fn read_text<St: Store>(
     kind: TextKind,
     store: &mut St,
 ) -> Result<Vec<u8>, Outcome>
-    ensures ok { IfOk result (λ text. OfFile (St.files store.old) name.now (λ bytes. (text.items ≡ bytes) × (length bytes ≤ 1048576))) }
-    ensures few { IfOk result (λ text. length text.items ≤ 1048576) }
+    ensures ok { IfOk result (λ text. OfFile (St.files store.old) name.now (λ bytes. (text.items ≡ bytes) × (length bytes ≤ MOST_FILE_BYTES))) }
+    ensures few { IfOk result (λ text. length text.items ≤ MOST_FILE_BYTES) }
     ensures refused { IfErr result (λ outcome. IsUnread outcome kind (St.files store.old) name.now) }
     ensures outside { IfErr result HasNoPortFault }
     ensures later { St.faults store.old ≤ St.faults store.new }
     ensures store { IfErr result (λ outcome. status_of outcome ≡ 2 → Rose (St.faults store.old) (St.faults store.new)) }
 {
     let mut text = Vec::new(alloc);
-    match store.read(alloc, name, &mut text, MOST_BYTES) {
+    match store.read(alloc, name, &mut text, MOST_FILE_BYTES) {
         Ok(()) => Ok(text),
         Err(StoreFault::TooLong) => Err(Outcome::LongText(kind)),
         Err(StoreFault::Failed) => Err(Outcome::Store(FileRole::Other)),

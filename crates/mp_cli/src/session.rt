@@ -4,7 +4,8 @@ ghost use Rattle.mp_model.specs.Certificate.{HasLengths, Certifies};
 ghost use Rattle.mp_model.specs.Run.{opening};
 ghost use Rattle.mp_model.specs.Slack.{IsSlack};
 ghost use Rattle.mp_cert.specs.Views.{cert_of};
-ghost use Rattle.mp_drift.specs.Bounded.{excess, denominator, FindsGreatest};
+ghost use Rattle.mp_num.specs.Fraction.{numerator, denominator};
+ghost use Rattle.mp_drift.specs.Bounded.{FindsGreatest};
 ghost use Rattle.mp_drift.specs.Session.{IsAccepted};
 ghost use Rattle.mp_step.specs.Standing.{Stands};
 ghost use Rattle.mp_step.specs.Taken.{HasTaken};
@@ -76,8 +77,8 @@ pub fn open_session<'a>(alloc: Global, net: &'a Net, cert: &Cert) -> Result<Sess
     ensures net { IfOk result (λ s. s.net ≡ net.now) }
     ensures checked { OnOk result (IsAccepted net.now (cert_of cert.now)) }
     ensures certifies { IfOk result (λ s. Certifies net.now (cert_of cert.now)) }
-    ensures slack { IfOk result (λ s. IsSlack (cert_of cert.now) (excess s.slack) (denominator s.slack)) }
-    ensures found { IfOk result (λ s. FindsGreatest net.now (excess s.slack) (denominator s.slack)) }
+    ensures slack { IfOk result (λ s. IsSlack (cert_of cert.now) (numerator s.slack) (denominator s.slack)) }
+    ensures found { IfOk result (λ s. FindsGreatest net.now (numerator s.slack) (denominator s.slack)) }
     ensures opening { IfOk result (λ s. Stands net.now s.at (opening net.now)) }
     ensures taken { IfOk result (λ s. HasTaken net.now s.at []) }
     ensures refused { IfErr result (λ outcome. IsUnaccepted outcome net.now (cert_of cert.now)) }

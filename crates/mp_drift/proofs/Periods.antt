@@ -23,7 +23,7 @@ use Rattle.mp_laws.proofs.Sums.{sum_by-same_at}
 use Rattle.mp_step.specs.BucketLevels.{level_then}
 use Rattle.mp_step.specs.Standing.{Standing, IsOn, Stands, closed}
 use Rattle.mp_step.specs.Taken.{HasTaken}
-use Rattle.mp_drift.specs.Bounded.{excess, denominator}
+use Rattle.mp_num.specs.Fraction.{numerator, denominator}
 use Rattle.mp_drift.specs.Session.{Bounded, IsBounded, HasLowDrift}
 
 -- a closed period is one of the drift laws
@@ -47,9 +47,9 @@ closed_period net st on stages counts =
     }
 
 -- a period with greatest stages keeps the drift value low
-pub low_after : (s : Bounded) → IsBounded s → (stages counts : List ℕ) → AllGreatest s.net (entry s.at.queues) s.net.junctions stages → HasLowDrift s.net (excess s.slack) (denominator s.slack) (closed s.net s.at stages counts)
+pub low_after : (s : Bounded) → IsBounded s → (stages counts : List ℕ) → AllGreatest s.net (entry s.at.queues) s.net.junctions stages → HasLowDrift s.net (numerator s.slack) (denominator s.slack) (closed s.net s.at stages counts)
 low_after s b stages counts greatest =
-    drift_kept s.net b.acceptable.network b.certified.0 b.certified.1 (excess s.slack) (denominator s.slack) b.certified.2 stages (arrivals_of s.net counts) (entry s.at.queues) (entry s.at.phases) (entry s.at.levels) _ _ _ (nearly s.net (entry s.at.queues) s.net.junctions stages greatest)
+    drift_kept s.net b.acceptable.network b.certified.0 b.certified.1 (numerator s.slack) (denominator s.slack) b.certified.2 stages (arrivals_of s.net counts) (entry s.at.queues) (entry s.at.phases) (entry s.at.levels) _ _ _ (nearly s.net (entry s.at.queues) s.net.junctions stages greatest)
     (closed_period s.net s.at b.on stages counts) b.on.within b.drift
 
 pub bounded_after : (s : Bounded) → IsBounded s → (stages counts last : List ℕ) (new : Standing) → AllGreatest s.net (entry s.at.queues) s.net.junctions stages → new ≡ closed s.net s.at stages counts → IsOn s.net new →
@@ -59,7 +59,7 @@ bounded_after s b stages counts last new greatest is on = record {
   certified = b.certified;
   bounds = b.bounds;
   on = on;
-  drift = subst (HasLowDrift s.net (excess s.slack) (denominator s.slack)) (sym is) (low_after s b stages counts greatest);
+  drift = subst (HasLowDrift s.net (numerator s.slack) (denominator s.slack)) (sym is) (low_after s b stages counts greatest);
 }
 
 -- the drift value reads queues, phases and levels alone
@@ -85,7 +85,7 @@ low_at_opening net ok st stands taken E D =
 
 -- each queue is at most its bound
 pub within_bounds : (s : Bounded) → (b : IsBounded s) → AllByRecursion (λ k. entry s.at.queues k ≤ entry b.bounds.bounds k) (movement_numbers s.net)
-within_bounds s b = queues_bounded s.net b.acceptable.network (excess s.slack) (denominator s.slack) b.bounds.bounds b.bounds.are (entry s.at.queues) (entry s.at.phases) (entry s.at.levels) b.on.within b.drift
+within_bounds s b = queues_bounded s.net b.acceptable.network (numerator s.slack) (denominator s.slack) b.bounds.bounds b.bounds.are (entry s.at.queues) (entry s.at.phases) (entry s.at.levels) b.on.within b.drift
 
 entry_signed : (xs : List ℕ) (i : ℕ) → slice_index_or (map pos xs) i (pos 0) ≡ pos (slice_index xs i)
 entry_signed [] i = refl

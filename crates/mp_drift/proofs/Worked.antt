@@ -1,7 +1,7 @@
 -- Worked openings, each computed from the stated calculation: certificates that the check accepts and whose bounds exceed 128 bits or have no room, and one that the check refuses.
 use Rattle.std.proofs.Common.{◌≤◌, ◌+◌, ◌-◌, ◌*◌, ◌^◌, arith, ℕ, [], ◌∷◌, pos, codes, None, refl, lit≤, lit<}
 use Rattle.mp_num.specs.Checked.{within}
-use Rattle.mp_num.specs.Passing.{run}
+use Rattle.mp_num.specs.Passing.{stepped}
 use Rattle.mp_model.specs.Certificate.{Cert}
 use Rattle.mp_model.specs.Network.{Network}
 use Rattle.mp_model.specs.Worked.{two_approaches}
@@ -54,5 +54,5 @@ record AreWorkedOpenings : Type 0 where
   great_refused : IsRefused two_approaches (of (4 * 2 ^ 123) (3 * 2 ^ 123) (4 * 2 ^ 123) (2 * 2 ^ 123)) (RefusesCert Overflow)
 
 worked_openings : AreWorkedOpenings
-unfolding within run first_of times plus summed at_most mass_holds part_added parts_for served_at inflow coming need balance_holds fitting threshold_from greatest_from
+unfolding within stepped first_of times plus summed at_most mass_holds part_added parts_for served_at inflow coming need balance_holds fitting threshold_from greatest_from
 worked_openings = record { lone_accepted = refl; small_accepted = refl; small_bound = refl; fine_accepted = refl; fine_bound = refl; great_refused = refl }

@@ -1,21 +1,12 @@
 -- What the code's bounds come to.
-use Rattle.std.specs.Prelude.{◌≡◌, ℕ, ℤ, pos, List, map, Some, None, Result, Ok, Err, unsigned_abs}
+use Rattle.std.specs.Prelude.{◌≡◌, ℕ, ℤ, pos, List, map, Some, None, Result, Ok, Err}
 use Rattle.mp_model.specs.Network.{Network}
 use Rattle.mp_model.specs.Bounds.{queue_threshold, greatest_drift, AreBounds, HasRoom}
-use Rattle.mp_num.specs.Fraction.{Fraction}
 use Rattle.mp_flow.specs.declared.network.Place.TheVariants.{Flow, Game, Adjoint, Vector, Mix, Certificate, Bound, Room}
 use Rattle.mp_flow.specs.declared.network.CalcFault.{CalcFault}
 use Rattle.mp_flow.specs.declared.network.CalcFault.TheVariants.{Overflow, PivotLimit, NoMemory}
 use Rattle.mp_drift.specs.declared.queue_bounds.QueueBounds.{QueueBounds}
 use Rattle.mp_drift.specs.Stated.{stated_greatest}
-
--- This is E of a slack E/D.
-abbrev pub excess : Fraction → ℕ
-excess slack = unsigned_abs slack.num
-
--- This is D of a slack E/D.
-abbrev pub denominator : Fraction → ℕ
-denominator slack = unsigned_abs slack.den
 
 -- The stated calculation finds the greatest drift value under the slack E/D: nothing in it exceeds 128 bits.
 abbrev pub FindsGreatest : Network → ℕ → ℕ → Type 0

@@ -6,7 +6,7 @@ use Rattle.mp_model.specs.DriftValue.{drift_value}
 use Rattle.mp_model.specs.Network.{Network, entry}
 use Rattle.mp_model.specs.NetworkRules.{IsAcceptable}
 use Rattle.mp_model.specs.Slack.{IsSlack}
-use Rattle.mp_num.specs.Fraction.{Fraction}
+use Rattle.mp_num.specs.Fraction.{Fraction, numerator, denominator}
 use Rattle.mp_flow.specs.declared.network.CalcFault.{CalcFault}
 use Rattle.mp_flow.specs.declared.network.CalcFault.TheVariants.{Overflow}
 use Rattle.mp_flow.specs.declared.network.CalcFault.TheVariants as calc
@@ -14,7 +14,7 @@ use Rattle.mp_flow.specs.declared.network.Place.TheVariants.{Bound, Room}
 use Rattle.mp_cert.specs.Checking.{check_outcome}
 use Rattle.mp_step.specs.Standing.{Standing, IsOn}
 use Rattle.mp_drift.specs.Stated.{stated_greatest}
-use Rattle.mp_drift.specs.Bounded.{excess, denominator, HoldsBounds, HasNoRoom}
+use Rattle.mp_drift.specs.Bounded.{HoldsBounds, HasNoRoom}
 use Rattle.mp_drift.specs.declared.session.OpenFault.{OpenFault}
 use Rattle.mp_drift.specs.declared.session.OpenFault.TheVariants.{Cert as RefusesCert, Calc, NoMemory}
 
@@ -37,10 +37,10 @@ HasLowDrift net E D st = drift_value net (entry st.queues) (entry st.phases) (en
 -- The network is certified with the slack, the bounds are those of the slack, the run stands on the network, and its drift value is at most its greatest.
 pub record IsBounded (s : Bounded) : Type 0 where
   pub acceptable : IsAcceptable s.net
-  pub certified : IsCertified s.net (excess s.slack) (denominator s.slack)
-  pub bounds : HoldsBounds s.net (excess s.slack) (denominator s.slack) s.bounds
+  pub certified : IsCertified s.net (numerator s.slack) (denominator s.slack)
+  pub bounds : HoldsBounds s.net (numerator s.slack) (denominator s.slack) s.bounds
   pub on : IsOn s.net s.at
-  pub drift : HasLowDrift s.net (excess s.slack) (denominator s.slack) s.at
+  pub drift : HasLowDrift s.net (numerator s.slack) (denominator s.slack) s.at
 
 -- The check accepts the certificate: it meets every rule, and no calculation of a rule exceeds 128 bits.
 abbrev pub IsAccepted : Network → Cert → Type 0

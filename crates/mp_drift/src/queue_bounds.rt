@@ -2,10 +2,10 @@
 ghost use Rattle.std.specs.Prelude.{◌≡◌, ◌*◌, ◌/◌, ◌+◌, ◌<◌, ◌≤◌, ◌≤ℤ◌, ◌^◌, length, map, max, sum_by, IfOk, IfSome, IfNone, None, pos, ℤ, List, IsTrue, ◌↔◌, All, unsigned_abs};
 ghost use Rattle.mp_model.specs.Network.{movement_numbers};
 ghost use Rattle.mp_model.specs.Bounds.{credit_term, drift_constant, start_drift, queue_threshold, greatest_drift, queue_bound, IsRoot};
-ghost use Rattle.mp_num.specs.Fraction.{Fraction};
+ghost use Rattle.mp_num.specs.Fraction.{Fraction, numerator, denominator};
 ghost use Rattle.mp_drift.specs.Constants.{AreConstants};
 ghost use Rattle.mp_drift.specs.Stated.{unit_of, credit_sum, stated_greatest, threshold_from, greatest_from};
-ghost use Rattle.mp_drift.specs.Bounded.{excess, denominator, IsFound, HoldsBounds, EndsAs};
+ghost use Rattle.mp_drift.specs.Bounded.{IsFound, HoldsBounds, EndsAs};
 
 use crate::checked::{product, signed, sum};
 use crate::numbers::{DriftNumbers, credit_of};
@@ -51,7 +51,7 @@ fn drift_of(net: &Net, constants: &DriftNumbers) -> u128
 /// E of a slack E/D above 0.
 fn excess_of(slack: &Frac) -> u128
     requires { pos 1 ≤ℤ slack.now.num }
-    ensures value { result ≡ excess slack.now }
+    ensures value { result ≡ numerator slack.now }
     ensures some { 1 ≤ result }
     ensures fits { result < 2 ^ 127 }
 {
@@ -147,9 +147,9 @@ struct Reached {
 fn greatest_of(net: &Net, constants: &DriftNumbers, slack: &Frac) -> Option<Reached>
     requires constants { AreConstants net.now constants.now }
     requires above { pos 1 ≤ℤ slack.now.num }
-    ensures found { IfSome result (λ g. IsFound net.now (excess slack.now) (denominator slack.now) g.total g.vmax) }
+    ensures found { IfSome result (λ g. IsFound net.now (numerator slack.now) (denominator slack.now) g.total g.vmax) }
     ensures fits { IfSome result (λ g. (g.total < 2 ^ 127) × (g.vmax < 2 ^ 127)) }
-    ensures none { IfNone result (stated_greatest net.now (excess slack.now) (denominator slack.now) ≡ None) }
+    ensures none { IfNone result (stated_greatest net.now (numerator slack.now) (denominator slack.now) ≡ None) }
 {
     let unit = unit(net);
     let drift = drift_of(net, constants);
@@ -192,10 +192,10 @@ pub fn bounds(
 ) -> Result<QueueBounds, CalcFault>
     requires constants { AreConstants net.now constants.now }
     requires above { pos 1 ≤ℤ slack.now.num }
-    ensures total { IfOk result (λ found. found.total ≡ pos (queue_threshold net.now (excess slack.now) (denominator slack.now))) }
-    ensures greatest { IfOk result (λ found. found.vmax ≡ pos (greatest_drift net.now (excess slack.now) (denominator slack.now))) }
-    ensures bounds { IfOk result (λ found. HoldsBounds net.now (excess slack.now) (denominator slack.now) found.bound) }
-    ensures calculation { EndsAs net.now (excess slack.now) (denominator slack.now) result }
+    ensures total { IfOk result (λ found. found.total ≡ pos (queue_threshold net.now (numerator slack.now) (denominator slack.now))) }
+    ensures greatest { IfOk result (λ found. found.vmax ≡ pos (greatest_drift net.now (numerator slack.now) (denominator slack.now))) }
+    ensures bounds { IfOk result (λ found. HoldsBounds net.now (numerator slack.now) (denominator slack.now) found.bound) }
+    ensures calculation { EndsAs net.now (numerator slack.now) (denominator slack.now) result }
 {
     let Some(found) = greatest_of(net, constants, slack) else {
         return Err(CalcFault::Overflow(Place::Bound));

@@ -6,11 +6,13 @@ ghost use Rattle.mp_model.specs.Network.{entry};
 ghost use Rattle.mp_model.specs.Run.{opening, advance, greatest_stages};
 ghost use Rattle.mp_model.specs.Slack.{IsSlack};
 ghost use Rattle.mp_model.specs.Step.{State as StateOfModel};
+ghost use Rattle.mp_model.specs.declared.limits.TheConstants.{MOST_LINES};
 ghost use Rattle.mp_laws.specs.Buckets.{IsFirstAbove};
 ghost use Rattle.mp_cert.specs.Views.{cert_of};
 ghost use Rattle.mp_step.specs.Standing.{Stands};
 ghost use Rattle.mp_step.specs.Taken.{HasTaken};
-ghost use Rattle.mp_drift.specs.Bounded.{excess, denominator, FindsGreatest};
+ghost use Rattle.mp_num.specs.Fraction.{numerator, denominator};
+ghost use Rattle.mp_drift.specs.Bounded.{FindsGreatest};
 ghost use Rattle.mp_drift.specs.Session.{IsAccepted, IsBounded, IsRefused, open_fault};
 
 use crate::numbers::constants;
@@ -89,8 +91,8 @@ impl<'a> Session<'a> {
         ensures net { IfOk result (λ s. s.net ≡ net.now) }
         ensures checked { OnOk result (IsAccepted net.now (cert_of cert.now)) }
         ensures certifies { IfOk result (λ s. Certifies net.now (cert_of cert.now)) }
-        ensures slack { IfOk result (λ s. IsSlack (cert_of cert.now) (excess s.slack) (denominator s.slack)) }
-        ensures found { IfOk result (λ s. FindsGreatest net.now (excess s.slack) (denominator s.slack)) }
+        ensures slack { IfOk result (λ s. IsSlack (cert_of cert.now) (numerator s.slack) (denominator s.slack)) }
+        ensures found { IfOk result (λ s. FindsGreatest net.now (numerator s.slack) (denominator s.slack)) }
         ensures opening { IfOk result (λ s. Stands net.now s.at (opening net.now)) }
         ensures taken { IfOk result (λ s. HasTaken net.now s.at []) }
         ensures refused { IfErr result (IsRefused net.now (cert_of cert.now)) }
@@ -180,7 +182,7 @@ impl<'a> Session<'a> {
     pub fn period(&mut self, arrivals: &[u64]) -> Result<(), AboveAt>
         requires counts { HasCounts self.old.net arrivals.now }
         requires digits { All (λ a. a < 10 ^ 9) arrivals.now }
-        requires period { self.old.at.period < 2 ^ 48 }
+        requires period { self.old.at.period < MOST_LINES }
         ensures excess { IfErr result (λ above. (A : List (List ℕ)) → HasTaken self.old.net self.old.at A → IsFirstAbove self.old.net A arrivals.now above.link) }
         ensures stays { OnErr result (self.new ≡ self.old) }
         ensures taken { OnOk result ((A : List (List ℕ)) → HasTaken self.old.net self.old.at A → HasTaken self.old.net self.new.at (A ++ arrivals.now ∷ [])) }

@@ -7,7 +7,7 @@ use Rattle.mp_num.specs.Checked.{within}
 use Rattle.mp_flow.specs.Answers.{pivot_of, denominator, answer_at, answers}
 use Rattle.std.proofs.lemmas.Nat.{div_below}
 use Rattle.std.proofs.lemmas.List.{append-nil}
-use Rattle.mp_num.specs.Passing.{each, run, counting}
+use Rattle.mp_num.specs.Passing.{each, stepped, counting}
 use Rattle.mp_num.specs.Row.{rows_of}
 use Rattle.mp_num.specs.Multiple.{lcm_of}
 use Rattle.mp_num.proofs.TableLemmas.{entry-rows_of}
@@ -15,7 +15,7 @@ use Rattle.mp_num.proofs.PassingLemmas.{before, before_nil, before_one, each_at}
 
 -- the denominator so far
 pub record Denominating (count : ℕ) (rows : List (List ℤ)) (j : ℕ) (d : ℤ) : Type 0 where
-  pub rest : denominator count rows ≡ run (λ d j. lcm_of d (pivot_of rows j)) d (drop j (counting count 0))
+  pub rest : denominator count rows ≡ stepped (λ d j. lcm_of d (pivot_of rows j)) d (drop j (counting count 0))
   pub positive : pos 1 ≤ℤ d
 
 pub denominating_start : (count : ℕ) (rows : List (List ℤ)) → Denominating count rows 0 (pos 1)
@@ -23,11 +23,11 @@ unfolding denominator
 denominating_start count rows = record { rest = refl; positive = omega (arith, ints) }
 
 denominating_at : (count : ℕ) (rows : List (List ℤ)) (j : ℕ) (d : ℤ) → Denominating count rows j d → j < count →
-    denominator count rows ≡ option_and_then (λ t. run (λ d j. lcm_of d (pivot_of rows j)) t (drop (j + 1) (counting count 0))) (lcm_of d (pivot_of rows j))
+    denominator count rows ≡ option_and_then (λ t. stepped (λ d j. lcm_of d (pivot_of rows j)) t (drop (j + 1) (counting count 0))) (lcm_of d (pivot_of rows j))
 denominating_at count rows j d s h =
     let n : j < length (counting count 0) = omega (arith, length-counting count 0) in
     let at : get_or (counting count 0) j 0 ≡ j = get_or-counting count 0 j 0 h ∙ omega arith in
-    s.rest ∙ ap (run (λ d j. lcm_of d (pivot_of rows j)) d) (drop_more (counting count 0) j 0 n ∙ ap (λ m. m ∷ drop (j + 1) (counting count 0)) at) ∙ run_cons _ d j _
+    s.rest ∙ ap (stepped (λ d j. lcm_of d (pivot_of rows j)) d) (drop_more (counting count 0) j 0 n ∙ ap (λ m. m ∷ drop (j + 1) (counting count 0)) at) ∙ run_cons _ d j _
 
 pub denominating_more : (count width : ℕ) (cells : List ℤ) (height j : ℕ) (d e : ℤ) → Denominating count (rows_of height width cells) j d → j < count → count ≤ height → height ≤ width →
     lcm_of d (get_or cells (j * width + j) (pos 0)) ≡ Some e → pos 1 ≤ℤ get_or cells (j * width + j) (pos 0) → Denominating count (rows_of height width cells) (j + 1) e
@@ -42,7 +42,7 @@ denominating_passes count width cells height j d s h l m v =
     denominating_at count _ j d s h ∙ rw (cell, v) refl
 
 pub denominating_end : (count : ℕ) (rows : List (List ℤ)) (j : ℕ) (d : ℤ) → Denominating count rows j d → count ≤ j → denominator count rows ≡ Some d
-unfolding run
+unfolding stepped
 denominating_end count rows j d s h = s.rest ∙ rw (drop_all j (counting count 0) (omega (arith, length-counting count 0))) refl
 
 pub ruleset denominators = (to_z-of_z, denominating_start, denominating_more, denominating_passes, denominating_end)

@@ -17,7 +17,7 @@ use Rattle.mp_flow.specs.Answers.{pivot_of, denominator, answer_at, answers, Row
 use Rattle.mp_flow.proofs.DiagonalLemmas.{IsCleared, cleared_eliminated, length_eliminated}
 use Rattle.mp_flow.proofs.TheoremLemmas.{solves_eliminated}
 use Rattle.mp_num.specs.Sums.{total}
-use Rattle.mp_num.specs.Passing.{run, counting}
+use Rattle.mp_num.specs.Passing.{stepped, counting}
 use Rattle.mp_num.specs.Row.{entry}
 use Rattle.mp_num.specs.Multiple.{lcm_of}
 use Rattle.mp_num.proofs.SumLemmas.{total-same, total-one, total-split, total-scale}
@@ -41,8 +41,8 @@ divides_cons j js rows d h r zero l = h
 divides_cons j js rows d h r (suc k) l = r k (omega arith)
 
 pub run_denominator : (js : List ℕ) (rows : List (List ℤ)) (start d : ℤ) → pos 1 ≤ℤ start → ((k : ℕ) → k < length js → pos 1 ≤ℤ pivot_of rows (get_or js k 0)) →
-    run (λ d j. lcm_of d (pivot_of rows j)) start js ≡ Some d → IsDenominator js rows start d
-unfolding run
+    stepped (λ d j. lcm_of d (pivot_of rows j)) start js ≡ Some d → IsDenominator js rows start d
+unfolding stepped
 run_denominator [] rows start d h p e = let same : start ≡ d = same_Some _ _ e in
     record { positive = subst (λ (t : ℤ). pos 1 ≤ℤ t) same h; multiple = subst (λ (t : ℤ). unsigned_abs start ∣ unsigned_abs t) same (dvd_refl (unsigned_abs start)); divides = λ k l. absurd (omega arith) }
 run_denominator (j ∷ js) rows start d h p e =

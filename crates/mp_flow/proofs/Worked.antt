@@ -3,7 +3,7 @@ use Rattle.std.proofs.Common.{◌≡◌, [], ◌∷◌, pos, negsuc, refl}
 use Rattle.mp_num.specs.Checked.{within}
 use Rattle.mp_num.specs.Divisor.{euclid, gcd_of, divisor, divided, reduced}
 use Rattle.mp_num.specs.Multiple.{lcm_of}
-use Rattle.mp_num.specs.Passing.{each2, each, run}
+use Rattle.mp_num.specs.Passing.{each2, each, stepped}
 use Rattle.mp_num.specs.Row.{combined_entry, combined}
 use Rattle.mp_flow.specs.Answers.{Answer, Kernel, denominator, answer_at, answers, kernel_at, kernel, solved}
 use Rattle.mp_flow.specs.Elimination.{negated, upright, cleared, turned, turn, eliminated}
@@ -14,5 +14,5 @@ record AreWorkedSystems : Type 0 where
   singular : solved 2 1 ((pos 1 ∷ pos 2 ∷ pos 1 ∷ []) ∷ (pos 2 ∷ pos 4 ∷ pos 2 ∷ []) ∷ []) ≡ Kernel (negsuc 1 ∷ pos 1 ∷ [])
 
 worked_systems : AreWorkedSystems
-unfolding within euclid gcd_of divisor divided reduced lcm_of each2 each run combined_entry combined denominator answer_at answers kernel_at kernel solved negated upright cleared turned turn eliminated
+unfolding within euclid gcd_of divisor divided reduced lcm_of each2 each stepped combined_entry combined denominator answer_at answers kernel_at kernel solved negated upright cleared turned turn eliminated
 worked_systems = record { answer = refl; singular = refl }

@@ -3,7 +3,7 @@ use Rattle.std.specs.Prelude.{◌≡◌, ◌≢◌, ◌<◌, ℕ, ◌+◌, ◌*�
 use Rattle.mp_num.specs.Checked.{within}
 use Rattle.mp_num.specs.Divisor.{reduced}
 use Rattle.mp_num.specs.Multiple.{lcm_of}
-use Rattle.mp_num.specs.Passing.{each, run, counting}
+use Rattle.mp_num.specs.Passing.{each, stepped, counting}
 use Rattle.mp_num.specs.Row.{entry}
 use Rattle.mp_num.specs.Sums.{total}
 use Rattle.mp_flow.specs.Elimination.{Elimination, StuckAt, PassedAt, Through, eliminated}
@@ -14,7 +14,7 @@ pivot_of rows j = entry (get_or rows j []) j
 
 -- This is the denominator of the first columns: 1, and then the least common multiple of what is there and the pivot, column by column.
 unfoldable pub denominator : ℕ → List (List ℤ) → Option ℤ
-denominator count rows = run (λ d j. lcm_of d (pivot_of rows j)) (pos 1) (counting count 0)
+denominator count rows = stepped (λ d j. lcm_of d (pivot_of rows j)) (pos 1) (counting count 0)
 
 -- This is the value at column t mod n for right side t div n: the right side of the row of that column, times the part of the denominator that its pivot leaves.
 unfoldable pub answer_at : ℕ → ℤ → List (List ℤ) → ℕ → Option ℤ

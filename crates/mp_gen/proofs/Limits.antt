@@ -11,7 +11,7 @@ use Rattle.mp_laws.proofs.Lists.{AllOf-map, at_index, from_numbers}
 use Rattle.mp_laws.proofs.Permitted.{bound_of_run}
 use Rattle.mp_press.specs.Queues.{naturals}
 use Rattle.mp_step.specs.Standing.{Standing}
-use Rattle.mp_drift.specs.Bounded.{excess, denominator}
+use Rattle.mp_num.specs.Fraction.{numerator, denominator}
 use Rattle.mp_drift.specs.Session.{Bounded, IsBounded}
 use Rattle.mp_model.specs.Load.{greatest as greatest_of}
 use Rattle.mp_gen.specs.Demonstration.{Demonstrated}
@@ -48,7 +48,7 @@ states_below net bounds state (counts ∷ A) size low =
 -- the greatest queue of a demonstration is at most the greatest bound
 pub demonstrated_below : (s : Bounded) → IsBounded s → (n : ℕ) (at : Standing) (greatest : ℕ) → Demonstrated s.net n at greatest → greatest ≤ greatest_of (naturals s.bounds)
 demonstrated_below s b n at greatest shown =
-    let low = bound_of_run s.net b.acceptable.network b.certified.0 b.certified.1 (excess s.slack) (denominator s.slack) b.certified.2 b.bounds.bounds b.bounds.are shown.arrivals shown.permitted in
+    let low = bound_of_run s.net b.acceptable.network b.certified.0 b.certified.1 (numerator s.slack) (denominator s.slack) b.certified.2 b.bounds.bounds b.bounds.are shown.arrivals shown.permitted in
     let bounds : naturals s.bounds ≡ b.bounds.bounds = ap naturals b.bounds.listed ∙ map-map unsigned_abs pos b.bounds.bounds ∙ map-id b.bounds.bounds in
     let most = states_below s.net b.bounds.bounds (opening s.net) shown.arrivals (length-map-range_with_len (start_of s.net) 1 (length s.net.movements)) low in
     omega (arith, shown.greatest_is, most, ap greatest_of bounds)

@@ -1,5 +1,5 @@
 -- The run of a demonstration.
-use Rattle.std.specs.Prelude.{◌≡◌, ℕ, ◌^◌, List, [], ◌∷◌, ◌++◌, length}
+use Rattle.std.specs.Prelude.{◌≡◌, ℕ, List, [], ◌∷◌, ◌++◌, length}
 use Rattle.std.specs.List.{flat_map}
 use Rattle.rand_pcg.specs.Lcg.{Lcg}
 use Rattle.mp_model.specs.Network.{Network, fed}
@@ -9,6 +9,7 @@ use Rattle.mp_model.specs.Run.{opening, advance, run, state_after}
 use Rattle.mp_step.specs.Standing.{Standing, Stands}
 use Rattle.mp_step.specs.Taken.{HasTaken}
 use Rattle.mp_model.specs.Load.{greatest as greatest_of}
+use Rattle.mp_gen.specs.declared.demonstration.TheConstants.{PERIODS}
 use Rattle.mp_gen.specs.DemoArrivals.{IsDrawn, IsDemonstration}
 
 -- These are all queues of all states of the run over these arrivals.
@@ -22,7 +23,7 @@ greatest_queue net A = greatest_of (queues_of_run net A)
 -- The demonstration n was shown on a network: 2^20 periods of its arrivals, which are permitted, were closed, the run stands after them, and this is its greatest queue.
 pub record Demonstrated (net : Network) (n : ℕ) (at : Standing) (greatest : ℕ) : Type 0 where
   pub arrivals : List (List ℕ)
-  pub periods : length arrivals ≡ 2 ^ 20
+  pub periods : length arrivals ≡ PERIODS
   pub drawn : IsDemonstration n arrivals
   pub permitted : IsPermitted net arrivals
   pub stands : Stands net at (state_after net (opening net) arrivals)

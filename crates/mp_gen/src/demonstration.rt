@@ -1,10 +1,11 @@
 //! The run of a demonstration.
-ghost use Rattle.std.specs.Prelude.{◌≡◌, ◌≤◌, ◌<◌, ◌+◌, ◌^◌, ℕ, List, []};
+ghost use Rattle.std.specs.Prelude.{◌≡◌, ◌≤◌, ◌<◌, ◌+◌, ℕ, List, []};
 ghost use Rattle.mp_model.specs.Run.{opening};
 ghost use Rattle.mp_press.specs.Queues.{naturals};
 ghost use Rattle.mp_step.specs.Standing.{Stands};
 ghost use Rattle.mp_step.specs.Taken.{HasTaken};
 ghost use Rattle.mp_model.specs.Load.{greatest as greatest_of};
+ghost use Rattle.mp_model.specs.declared.limits.TheConstants.{MOST_LINES};
 ghost use Rattle.mp_gen.specs.DemoNetwork.{demo_network};
 ghost use Rattle.mp_gen.specs.Demonstration.{Demonstrated, ClosesNext};
 
@@ -20,7 +21,7 @@ pub const PERIODS: u32 = 1 << 20;
 // Closes one period with the next arrivals, for which `counts` is room. The buckets accept them.
 fn next_period(session: &mut Session, arrivals: &mut DemoArrivals, counts: &mut ArrayVec<u64, 128>)
     requires taken { (A : List (List ℕ)) × HasTaken session.old.net session.old.at A }
-    requires period { session.old.at.period < 2 ^ 48 }
+    requires period { session.old.at.period < MOST_LINES }
     ensures closes { ClosesNext session.old.net session.old.at session.new.at arrivals.old arrivals.new }
     ensures same { session.new ≡ record session.old { at = session.new.at; stages = session.new.stages } }
     ensures period { session.new.at.period ≡ session.old.at.period + 1 }

@@ -1,7 +1,7 @@
 //! The text of a demonstration.
 ghost use Rattle.std.specs.Prelude.{◌≡◌, ℕ, List, sum};
 ghost use Rattle.mp_edge.specs.Outside.{Tells, Puts, HasCause};
-ghost use Rattle.mp_drift.specs.Bounded.{excess, denominator};
+ghost use Rattle.mp_num.specs.Fraction.{numerator, denominator};
 ghost use Rattle.mp_press.specs.Queues.{naturals};
 ghost use Rattle.mp_model.specs.Load.{greatest as greatest_of};
 ghost use Rattle.mp_gen.specs.Demonstration.{Demonstrated};
@@ -15,7 +15,7 @@ use mp_text::LineSink;
 
 // E of the slack E/D of a session.
 fn excess_of(session: &Session) -> u128
-    ensures { result ≡ excess session.now.slack }
+    ensures { result ≡ numerator session.now.slack }
 {
     session.slack().num().unsigned_abs()
 }
@@ -36,8 +36,8 @@ pub fn put_demo<Out: Sink>(
     session: &Session,
     greatest: u128,
 ) -> Result<(), Failed>
-    ensures bytes { Tells (Out.held out.old) (Out.held out.new) (Puts result (demo_text n (excess session.now.slack) (denominator session.now.slack) (greatest_of (naturals session.now.bounds)) session.now.at.total_in session.now.at.total_out (sum session.now.at.queues) greatest)) }
-    ensures summary { (shown : Demonstrated session.now.net n session.now.at greatest) → Tells (Out.held out.old) (Out.held out.new) (Puts result (demo_summary n session.now.net (excess session.now.slack) (denominator session.now.slack) (naturals session.now.bounds) shown.arrivals)) }
+    ensures bytes { Tells (Out.held out.old) (Out.held out.new) (Puts result (demo_text n (numerator session.now.slack) (denominator session.now.slack) (greatest_of (naturals session.now.bounds)) session.now.at.total_in session.now.at.total_out (sum session.now.at.queues) greatest)) }
+    ensures summary { (shown : Demonstrated session.now.net n session.now.at greatest) → Tells (Out.held out.old) (Out.held out.new) (Puts result (demo_summary n session.now.net (numerator session.now.slack) (denominator session.now.slack) (naturals session.now.bounds) shown.arrivals)) }
     ensures cause { HasCause (Out.faults out.old) (Out.faults out.new) result }
 {
     let state = session.state();

@@ -6,7 +6,7 @@ use Rattle.std.proofs.lemmas.List.{length-append, length-map}
 use Rattle.std.proofs.lemmas.List.Elements.{All-head, All-tail}
 use Rattle.std.proofs.lemmas.Fmt.{length-decimal-le_wide}
 use Rattle.mp_model.specs.Log.{spaced, period_line, end_line_of}
-use Rattle.mp_text.specs.Buffered.{MOST_BYTES}
+use Rattle.mp_model.specs.declared.limits.TheConstants.{MOST_LOG_LINE_BYTES}
 use Rattle.mp_log.proofs.DigitLemmas.{digits_few}
 use Rattle.mp_log.specs.Fitting.{FitsLine}
 
@@ -48,14 +48,14 @@ short period arrivals stages queues f = record {
 }
 
 -- the line of a period fits a buffer
-pub period_short : (period : ℕ) (arrivals stages queues : List ℕ) → FitsLine period arrivals stages (map pos queues) → length (period_line period arrivals stages queues) < MOST_BYTES
+pub period_short : (period : ℕ) (arrivals stages queues : List ℕ) → FitsLine period arrivals stages (map pos queues) → length (period_line period arrivals stages queues) < MOST_LOG_LINE_BYTES
 period_short period arrivals stages queues f =
     let s = short period arrivals stages (map pos queues) f in
     let queues_are = ap (length {A = ℕ}) (spaced_signed queues) in
     let number = digits_few period in
     simp length-append (omega (arith, s.arrivals_short, s.stages_short, s.queues_short))
 
-pub end_short : (period total_in total_out queued : ℕ) → length (end_line_of period total_in total_out queued) < MOST_BYTES
+pub end_short : (period total_in total_out queued : ℕ) → length (end_line_of period total_in total_out queued) < MOST_LOG_LINE_BYTES
 end_short period total_in total_out queued =
     let p = digits_few period in
     let i = digits_few total_in in

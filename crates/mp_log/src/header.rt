@@ -1,10 +1,11 @@
 //! Header lines.
-ghost use Rattle.std.specs.Prelude.{◌≡◌, ◌≤◌, ◌<◌, ◌++◌, ◌∷◌, ◌+◌, [], ℕ, List, length, map};
+ghost use Rattle.std.specs.Prelude.{◌≡◌, ◌≤◌, ◌<◌, ◌++◌, ◌∷◌, ◌+◌, [], ℕ, List, length, map, unsigned_abs};
 ghost use Rattle.mp_edge.specs.Outside.{Tells, Puts, HasCause};
-ghost use Rattle.mp_text.specs.Buffered.{MOST_BYTES};
+ghost use Rattle.mp_model.specs.declared.limits.TheConstants.{MOST_LOG_LINE_BYTES};
 ghost use Rattle.mp_model.specs.Network.{entry, numbers_to, movement_at};
 ghost use Rattle.mp_model.specs.Log.{first_line, slack_line, bound_line, header_lines, text_of};
-ghost use Rattle.mp_log.specs.Heading.{header_line, excess, denominator, naturals};
+ghost use Rattle.mp_num.specs.Fraction.{numerator, denominator};
+ghost use Rattle.mp_log.specs.Heading.{header_line};
 
 use crate::line::{push_number, push_text};
 use mp_edge::{Failed, Sink};
@@ -23,7 +24,7 @@ pub fn header_lines(net: &Net) -> u32
 
 // E of a slack E/D.
 fn excess_of(slack: &Frac) -> u128
-    ensures { result ≡ excess slack.now }
+    ensures { result ≡ numerator slack.now }
 {
     slack.num().unsigned_abs()
 }
@@ -38,7 +39,7 @@ fn denominator_of(slack: &Frac) -> u128
 // The bound of movement k, from a list of one per movement.
 fn bound_of(bound: &[i128], k: MovementNo) -> u128
     requires { (1 ≤ k) × (k ≤ length bound.now) }
-    ensures { result ≡ entry (naturals bound.now) k }
+    ensures { result ≡ entry (map unsigned_abs bound.now) k }
 {
     bound[usize::from(k) - 1].unsigned_abs()
 }
@@ -46,7 +47,7 @@ fn bound_of(bound: &[i128], k: MovementNo) -> u128
 // Appends the name of movement k.
 fn push_name(line: &mut LineSink, net: &Net, k: MovementNo)
     requires known { (1 ≤ k) × (k ≤ length net.now.movements) }
-    requires room { length line.old.held + 32 ≤ MOST_BYTES }
+    requires room { length line.old.held + 32 ≤ MOST_LOG_LINE_BYTES }
     ensures held { line.new.held ≡ line.old.held ++ (movement_at net.now k).name }
     ensures len { length line.new.held ≤ length line.old.held + 32 }
 {
@@ -56,7 +57,7 @@ fn push_name(line: &mut LineSink, net: &Net, k: MovementNo)
 // The slack line in an empty buffer.
 fn push_slack(line: &mut LineSink, slack: &Frac)
     requires { line.old.held ≡ [] }
-    ensures held { line.new.held ≡ slack_line (excess slack.now) (denominator slack.now) }
+    ensures held { line.new.held ≡ slack_line (numerator slack.now) (denominator slack.now) }
     ensures len { length line.new.held ≤ 87 }
 {
     push_text(line, b"slack ");
@@ -70,7 +71,7 @@ fn push_bound(line: &mut LineSink, net: &Net, bound: &[i128], k: MovementNo)
     requires empty { line.old.held ≡ [] }
     requires known { (1 ≤ k) × (k ≤ length net.now.movements) }
     requires bounds { length bound.now ≡ length net.now.movements }
-    ensures held { line.new.held ≡ bound_line net.now (naturals bound.now) k }
+    ensures held { line.new.held ≡ bound_line net.now (map unsigned_abs bound.now) k }
     ensures len { length line.new.held ≤ 120 }
 {
     push_text(line, b"bound ");
@@ -88,7 +89,7 @@ pub fn push_header_line(line: &mut LineSink, net: &Net, slack: &Frac, bound: &[i
     requires empty { line.old.held ≡ [] }
     requires known { (1 ≤ i) × (i ≤ length net.now.movements + 2) }
     requires bounds { length bound.now ≡ length net.now.movements }
-    ensures held { line.new.held ≡ header_line net.now (excess slack.now) (denominator slack.now) (naturals bound.now) i }
+    ensures held { line.new.held ≡ header_line net.now (numerator slack.now) (denominator slack.now) (map unsigned_abs bound.now) i }
     ensures len { length line.new.held ≤ 120 }
 {
     let _movements = net.movements();
@@ -112,7 +113,7 @@ pub fn put_header_line<K: Sink>(
 ) -> Result<(), Failed>
     requires known { (1 ≤ i) × (i ≤ length net.now.movements + 2) }
     requires bounds { length bound.now ≡ length net.now.movements }
-    ensures bytes { Tells (K.held out.old) (K.held out.new) (Puts result (header_line net.now (excess slack.now) (denominator slack.now) (naturals bound.now) i ++ 10 ∷ [])) }
+    ensures bytes { Tells (K.held out.old) (K.held out.new) (Puts result (header_line net.now (numerator slack.now) (denominator slack.now) (map unsigned_abs bound.now) i ++ 10 ∷ [])) }
     ensures cause { HasCause (K.faults out.old) (K.faults out.new) result }
 {
     let mut line = LineSink::new();
@@ -130,7 +131,7 @@ pub fn put_header<K: Sink>(
     bound: &[i128],
 ) -> Result<(), Failed>
     requires bounds { length bound.now ≡ length net.now.movements }
-    ensures bytes { Tells (K.held out.old) (K.held out.new) (Puts result (text_of (header_lines net.now (excess slack.now) (denominator slack.now) (naturals bound.now)))) }
+    ensures bytes { Tells (K.held out.old) (K.held out.new) (Puts result (text_of (header_lines net.now (numerator slack.now) (denominator slack.now) (map unsigned_abs bound.now)))) }
     ensures cause { HasCause (K.faults out.old) (K.faults out.new) result }
 {
     for i in 0..header_lines(net) {

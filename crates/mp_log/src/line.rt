@@ -1,7 +1,7 @@
 //! A line in a buffer, which goes out in one piece.
 ghost use Rattle.std.specs.Prelude.{◌≡◌, ◌≤◌, ◌<◌, ◌+◌, ◌++◌, ◌∷◌, length};
 ghost use Rattle.std.specs.List.{flat_map};
-ghost use Rattle.mp_text.specs.Buffered.{MOST_BYTES};
+ghost use Rattle.mp_model.specs.declared.limits.TheConstants.{MOST_LOG_LINE_BYTES};
 
 use itoa::{Buffer, Integer};
 use mp_edge::Sink;
@@ -9,7 +9,7 @@ use mp_text::LineSink;
 
 /// Appends a text that fits.
 pub fn push_text(line: &mut LineSink, text: &[u8])
-    requires { length line.old.held + length text.now ≤ MOST_BYTES }
+    requires { length line.old.held + length text.now ≤ MOST_LOG_LINE_BYTES }
     ensures held { line.new.held ≡ line.old.held ++ text.now }
     ensures len { length line.new.held ≡ length line.old.held + length text.now }
 {
@@ -18,7 +18,7 @@ pub fn push_text(line: &mut LineSink, text: &[u8])
 
 /// Appends the digits of a number, where there is room for those of any number of 128 bits.
 pub fn push_number<I: Integer>(line: &mut LineSink, number: I)
-    requires { length line.old.held + 40 ≤ MOST_BYTES }
+    requires { length line.old.held + 40 ≤ MOST_LOG_LINE_BYTES }
     ensures held { line.new.held ≡ line.old.held ++ I.text number }
     ensures len { length line.new.held ≤ length line.old.held + 40 }
 {
@@ -28,7 +28,7 @@ pub fn push_number<I: Integer>(line: &mut LineSink, number: I)
 
 // Appends a space and the digits of a number that fits.
 fn push_next<I: Integer>(line: &mut LineSink, number: I)
-    requires { length line.old.held + length (I.text number) < MOST_BYTES }
+    requires { length line.old.held + length (I.text number) < MOST_LOG_LINE_BYTES }
     ensures { line.new.held ≡ line.old.held ++ 32 ∷ I.text number }
 {
     let mut buffer = Buffer::new();
@@ -38,7 +38,7 @@ fn push_next<I: Integer>(line: &mut LineSink, number: I)
 
 /// Appends a space and the digits of each number, where they fit.
 pub fn push_spaced<I: Integer>(line: &mut LineSink, numbers: &[I])
-    requires { length line.old.held + length (flat_map (λ n. 32 ∷ I.text n) numbers.now) ≤ MOST_BYTES }
+    requires { length line.old.held + length (flat_map (λ n. 32 ∷ I.text n) numbers.now) ≤ MOST_LOG_LINE_BYTES }
     ensures held { line.new.held ≡ line.old.held ++ flat_map (λ n. 32 ∷ I.text n) numbers.now }
     ensures len { length line.new.held ≡ length line.old.held + length (flat_map (λ n. 32 ∷ I.text n) numbers.now) }
 {

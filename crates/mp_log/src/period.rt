@@ -2,7 +2,7 @@
 ghost use Rattle.std.specs.Prelude.{◌≡◌, ◌<◌, ◌++◌, ◌∷◌, [], ℕ, List, pos, map, length};
 ghost use Rattle.mp_edge.specs.Outside.{Tells, Puts, HasCause};
 ghost use Rattle.mp_model.specs.Log.{period_line};
-ghost use Rattle.mp_text.specs.Buffered.{MOST_BYTES};
+ghost use Rattle.mp_model.specs.declared.limits.TheConstants.{MOST_LOG_LINE_BYTES};
 ghost use Rattle.mp_log.specs.Fitting.{FitsLine};
 
 use crate::line::{push_number, push_spaced, push_text};
@@ -23,7 +23,7 @@ pub fn push_period(
     requires empty { line.old.held ≡ [] }
     requires fits { FitsLine period arrivals.now stages.now queues.now }
     ensures held { (counts : List ℕ) → queues.now ≡ map pos counts → line.new.held ≡ period_line period arrivals.now stages.now counts }
-    ensures len { length line.new.held < MOST_BYTES }
+    ensures len { length line.new.held < MOST_LOG_LINE_BYTES }
 {
     push_text(line, b"p ");
     push_number(line, period);

@@ -6,6 +6,7 @@ use Rattle.toml.specs.Data.{Data, table, get, Members}
 use Rattle.toml.specs.Parse.{parse_document}
 use Rattle.mp_model.specs.Network.{Link, Movement, Junction, Network}
 use Rattle.mp_model.specs.Names.{is_name, is_out}
+use Rattle.mp_model.specs.declared.limits.TheConstants.{MOST_FILE_BYTES}
 use Rattle.mp_net.specs.Spots.{first_spot, first_broken}
 use Rattle.mp_net.specs.NumberRules.{outside}
 use Rattle.mp_net.specs.Rules.{later_rules}
@@ -160,4 +161,4 @@ text_meaning bytes = meaning_of (tree_of bytes)
 
 -- A file means what its text means, unless it is too long.
 abbrev pub file_meaning : List ℕ → Result Network (NetRule × Spot)
-file_meaning bytes = if nat_lt 1048576 (length bytes) then at_top rule.TooLong else text_meaning bytes
+file_meaning bytes = if nat_lt MOST_FILE_BYTES (length bytes) then at_top rule.TooLong else text_meaning bytes

@@ -12,13 +12,11 @@ ghost use Rattle.mp_netfile.specs.Faults.{IsFaultOf, HasFewTables};
 use crate::parts::net_parts;
 use crate::tables::{TableRule, first_table};
 use crate::values::{has_bad_number, number_at};
+use mp_model::limits::MOST_FILE_BYTES;
 use mp_net::{Net, NetFault, NetRule, Section, Spot, build, first_spot};
 use mp_tree::integer_at;
 use std::alloc::Global;
 use toml::Value;
-
-/// The most bytes of a network file.
-const MOST_BYTES: usize = 1_048_576;
 
 fn at_top(rule: NetRule) -> NetFault
     ensures { result ≡ NetFault.Rule rule (record { section = Section.Top; number = 0 }) }
@@ -38,7 +36,7 @@ fn read_tree(alloc: Global, bytes: &[u8]) -> Result<Value, NetFault>
     ensures few { IfOk result (λ tree. HasFewTables (view tree)) }
     ensures err { IfErr result (IsFaultOf (file_meaning bytes.now)) }
 {
-    if bytes.len() > MOST_BYTES {
+    if bytes.len() > MOST_FILE_BYTES {
         return Err(at_top(NetRule::TooLong));
     }
     let text = match std::str::from_utf8(bytes) {

@@ -1,11 +1,19 @@
 -- Fractions of whole numbers in lowest terms.
-use Rattle.std.specs.Prelude.{◌≡◌, ℤ, pos, ◌≤ℤ◌, unsigned_abs, int_div}
+use Rattle.std.specs.Prelude.{◌≡◌, ℕ, ℤ, pos, ◌≤ℤ◌, unsigned_abs, int_div}
 use Rattle.mp_num.specs.Divisor.{gcd_of}
 
 -- A fraction has a numerator and a denominator.
 pub record Fraction : Type 0 where
   pub num : ℤ
   pub den : ℤ
+
+-- This is the numerator of a fraction that is not below 0.
+abbrev pub numerator : Fraction → ℕ
+numerator fraction = unsigned_abs fraction.num
+
+-- This is the denominator of a fraction, which is above 0.
+abbrev pub denominator : Fraction → ℕ
+denominator fraction = unsigned_abs fraction.den
 
 -- A fraction is in lowest terms where its denominator is at least 1 and the greatest common divisor of both numbers is 1.
 pub record IsLowest (num den : ℤ) : Type 0 where

@@ -1,7 +1,7 @@
 -- Products, sums and differences that may exceed 128 bits; what has exceeded them stays so.
 use Rattle.std.specs.Prelude.{ℕ, ℤ, pos, ◌+ℤ◌, ◌-ℤ◌, ◌*ℤ◌, List, Option, Some, option_and_then}
 use Rattle.mp_num.specs.Checked.{within}
-use Rattle.mp_num.specs.Passing.{run}
+use Rattle.mp_num.specs.Passing.{stepped}
 
 -- This is the product of two numbers, where both are there.
 unfoldable pub times : Option ℤ → Option ℤ → Option ℤ
@@ -25,4 +25,4 @@ added term sum x = plus (Some sum) (term x)
 
 -- The sum of the terms of a list begins at 0.
 unfoldable pub summed : {X : Type 0} → (X → Option ℤ) → List X → Option ℤ
-summed term xs = run (added term) (pos 0) xs
+summed term xs = stepped (added term) (pos 0) xs

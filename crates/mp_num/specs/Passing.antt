@@ -13,9 +13,9 @@ each f [] = Some []
 each f (x ∷ xs) = option_and_then (λ y. option_map (λ ys. y ∷ ys) (each f xs)) (f x)
 
 -- This is a running value over a list, and nothing where a step exceeds 128 bits.
-unfoldable pub run : {X S : Type 0} → (S → X → Option S) → S → List X → Option S
-run f s [] = Some s
-run f s (x ∷ xs) = option_and_then (λ t. run f t xs) (f s x)
+unfoldable pub stepped : {X S : Type 0} → (S → X → Option S) → S → List X → Option S
+stepped f s [] = Some s
+stepped f s (x ∷ xs) = option_and_then (λ t. stepped f t xs) (f s x)
 
 -- A step in place answers true and leaves the value of the calculation, or false where the calculation exceeds 128 bits.
 abbrev pub Becomes : {S : Type 0} → Bool → Option S → S → Type 0

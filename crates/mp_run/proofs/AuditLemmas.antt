@@ -15,7 +15,7 @@ use Rattle.mp_model.specs.Bounds.{queue_bound}
 use Rattle.mp_model.specs.Stream.{without_return, lines_of}
 use Rattle.mp_laws.specs.Buckets.{IsFirstAbove}
 use Rattle.mp_laws.proofs.Lists.{at_number, at_index}
-use Rattle.mp_text.specs.Buffered.{MOST_BYTES}
+use Rattle.mp_model.specs.declared.limits.TheConstants.{MOST_LOG_LINE_BYTES}
 use Rattle.mp_text.specs.Cut.{Cut}
 use Rattle.mp_text.specs.Cutting.{Cuts, CutsLine, StartsLong}
 use Rattle.mp_text.specs.declared.cutter.LineStep.TheVariants as step
@@ -49,7 +49,7 @@ return_length (b ∷ c ∷ bs) = let rest = return_length (c ∷ bs) in omega (a
 pub cut_line : (text rest line : List ℕ) → CutsLine 16385 text rest line → lines_of text ≡ line ∷ lines_of rest
 cut_line text rest line cut = ap (map without_return) cut.lines ∙ ap (λ first. first ∷ lines_of rest) (sym cut.given)
 
-pub cut_long : (text : List ℕ) → StartsLong 16385 text → (line : List ℕ) × (more : List (List ℕ)) × (lines_of text ≡ line ∷ more) × (MOST_BYTES ≤ length line)
+pub cut_long : (text : List ℕ) → StartsLong 16385 text → (line : List ℕ) × (more : List (List ℕ)) × (lines_of text ≡ line ∷ more) × (MOST_LOG_LINE_BYTES ≤ length line)
 cut_long text long = (without_return long.raw, map without_return long.more, ap (map without_return) long.lines, let most = long.long in omega (arith, return_length long.raw))
 
 module _ (left left' : Option (List ℕ)) (old new : Cut) (wanted : List ℕ) where
@@ -60,7 +60,7 @@ module _ (left left' : Option (List ℕ)) (old new : Cut) (wanted : List ℕ) wh
   pub compares_end : Tells left left' (Cuts 16385 step.End old new) → Tells left left' (Compares wanted compared.Other old new)
   compares_end told = Tells-weaker _ _ _ _ (λ was now e. inl (ap lines_of e.0)) told
 
-  pub compares_long : length wanted < MOST_BYTES → Tells left left' (Cuts 16385 step.TooLong old new) → Tells left left' (Compares wanted compared.Other old new)
+  pub compares_long : length wanted < MOST_LOG_LINE_BYTES → Tells left left' (Cuts 16385 step.TooLong old new) → Tells left left' (Compares wanted compared.Other old new)
   compares_long short told = Tells-weaker _ _ _ _ (λ was now long. let first = cut_long (old.held ++ was) long in inr (first.0, first.1, first.2, λ e. let size = ap (length {A = ℕ}) e in absurd (omega (arith, size, first.3)))) told
 
   pub compares_failed : Tells left left' (Cuts 16385 step.Failed old new) → Tells left left' (Compares wanted compared.Failed old new)
@@ -165,7 +165,7 @@ module _ (s : Bounded) (b : IsBounded s) where
           let place : suc k - 1 ≡ k = omega arith in
           let here : get_or queues k 0 ≤ 2 ^ 62 = subst (λ i. get_or queues i 0 ≤ 2 ^ 62) place (omega (arith, h, m)) in rw (get_or_default queues k d 0 low) (omega (arith, here))
 
-  pub short_next : (A : List (List ℕ)) (line : List ℕ) → IsNext s.net A line → length line < MOST_BYTES
+  pub short_next : (A : List (List ℕ)) (line : List ℕ) → IsNext s.net A line → length line < MOST_LOG_LINE_BYTES
   short_next A line next =
       let net = s.net in
       let state = state_after net (opening net) A in

@@ -15,7 +15,7 @@ use Rattle.mp_press.specs.Queues.{naturals}
 use Rattle.mp_press.proofs.Firsts.{greatest_are_stages}
 use Rattle.mp_step.specs.Standing.{Standing, IsOn}
 use Rattle.mp_drift.specs.Session.{Bounded, IsBounded}
-use Rattle.mp_drift.specs.Bounded.{excess, denominator}
+use Rattle.mp_num.specs.Fraction.{numerator, denominator}
 use Rattle.mp_run.specs.Running.{StaysWithin, TakesLine}
 use Rattle.mp_run.specs.declared.run.RunEnd.{RunEnd}
 use Rattle.mp_run.proofs.PeriodLemmas.{line_fits}
@@ -28,7 +28,7 @@ naturals_are bounds = map-map unsigned_abs pos bounds ∙ map-id bounds
 pub stays_within : (s : Bounded) → IsBounded s → (A : List (List ℕ)) → IsPermitted s.net A → StaysWithin s.net (naturals s.bounds) A
 stays_within s b A permitted =
     subst (λ (bounds : List ℕ). StaysWithin s.net bounds A) (sym (ap naturals b.bounds.listed ∙ naturals_are b.bounds.bounds))
-    (bound_of_run s.net b.acceptable.network b.certified.0 b.certified.1 (excess s.slack) (denominator s.slack) b.certified.2 b.bounds.bounds b.bounds.are A permitted)
+    (bound_of_run s.net b.acceptable.network b.certified.0 b.certified.1 (numerator s.slack) (denominator s.slack) b.certified.2 b.bounds.bounds b.bounds.are A permitted)
 
 -- a session that stays the same twice stays the same
 pub same_after : (old mid new : Bounded) → mid ≡ record old { at = mid.at; stages = mid.stages } → new ≡ record mid { at = new.at; stages = new.stages } → new ≡ record old { at = new.at; stages = new.stages }

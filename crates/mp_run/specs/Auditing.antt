@@ -1,5 +1,5 @@
 -- What an audit reads of a log, and how it ends.
-use Rattle.std.specs.Prelude.{◌≡◌, ◌≢◌, ◌<◌, ◌^◌, ◌⊎◌, ℕ, ◌+◌, List, [], ◌∷◌, ◌++◌, length, Option}
+use Rattle.std.specs.Prelude.{◌≡◌, ◌≢◌, ◌<◌, ◌⊎◌, ℕ, ◌+◌, List, [], ◌∷◌, ◌++◌, length, Option}
 use Rattle.mp_edge.specs.Outside.{Tells}
 use Rattle.mp_model.specs.Network.{Network, fed}
 use Rattle.mp_model.specs.Arrivals.{IsPermitted}
@@ -8,6 +8,7 @@ use Rattle.mp_model.specs.Run.{opening, advance, state_after}
 use Rattle.mp_model.specs.Log.{line_after, period_lines, end_line}
 use Rattle.mp_model.specs.Stream.{lines_of}
 use Rattle.mp_model.specs.WholeLog.{IsWholeLog, DiffersAt}
+use Rattle.mp_model.specs.declared.limits.TheConstants.{MOST_LINES}
 use Rattle.mp_text.specs.Cut.{Cut}
 use Rattle.mp_log.specs.Logged.{BeginsPeriod}
 use Rattle.mp_step.specs.Standing.{Standing, Stands}
@@ -49,7 +50,7 @@ Compares wanted compared.Failed old new was now = Unit {0}
 abbrev pub IsNext : Network → List (List ℕ) → List ℕ → Type 0
 IsNext net A line =
     let state : State = state_after net (opening net) A in
-    (line ≡ end_line net state) ⊎ ((counts : List ℕ) × (length A < 2 ^ 48) × IsPermitted net (A ++ counts ∷ []) × (line ≡ line_after net state counts))
+    (line ≡ end_line net state) ⊎ ((counts : List ℕ) × (length A < MOST_LINES) × IsPermitted net (A ++ counts ∷ []) × (line ≡ line_after net state counts))
 
 -- The line is that of the next period with these counts, which are permitted after the arrivals before them, and the period was closed.
 pub record ClosesLogged (net : Network) (line counts : List ℕ) (old new : Standing) : Type 0 where
@@ -63,7 +64,7 @@ RefutesCounts net line counts old = (A : List (List ℕ)) (state : State) → Ha
 
 -- One more period may come, and the line begins as its line with these counts.
 abbrev pub GivesCounts : Network → Standing → List ℕ → List ℕ → Type 0
-GivesCounts net standing line counts = (standing.period < 2 ^ 48) × BeginsPeriod line (standing.period + 1) (length (fed net)) counts
+GivesCounts net standing line counts = (standing.period < MOST_LINES) × BeginsPeriod line (standing.period + 1) (length (fed net)) counts
 
 -- The line is the end line.
 abbrev pub EndsLogged : Network → Standing → List ℕ → Type 0
@@ -75,7 +76,7 @@ RefutesEnd net standing line = (state : State) → Stands net standing state →
 
 -- The line is that of the next period, which was closed, or the end line, or it may not follow.
 abbrev pub TakesLogged : Network → List ℕ → Logged → Standing → Standing → Type 0
-TakesLogged net line Period old new = (counts : List ℕ) × (old.period < 2 ^ 48) × (new.period ≡ old.period + 1) × ClosesLogged net line counts old new
+TakesLogged net line Period old new = (counts : List ℕ) × (old.period < MOST_LINES) × (new.period ≡ old.period + 1) × ClosesLogged net line counts old new
 TakesLogged net line End old new = (new ≡ old) × EndsLogged net old line
 TakesLogged net line Other old new = (A : List (List ℕ)) → HasTaken net old A → Stands net old (state_after net (opening net) A) → ¬ IsNext net A line
 TakesLogged net line Failed old new = ⊥

@@ -1,5 +1,5 @@
 -- What is read of a stream, and what is written of its run.
-use Rattle.std.specs.Prelude.{◌≡◌, ◌≤◌, ◌⊎◌, ◌^◌, ℕ, ◌+◌, List, [], ◌∷◌, ◌++◌, length, map, Option, Some, None}
+use Rattle.std.specs.Prelude.{◌≡◌, ◌≤◌, ◌⊎◌, ℕ, ◌+◌, List, [], ◌∷◌, ◌++◌, length, map, Option, Some, None}
 use Rattle.std.specs.List.{AllByRecursion}
 use Rattle.mp_edge.specs.Outside.{Tells, GainsPrefix}
 use Rattle.mp_model.specs.Network.{Network, movement_numbers, entry}
@@ -9,6 +9,7 @@ use Rattle.mp_model.specs.Run.{opening, advance, state_after, run}
 use Rattle.mp_model.specs.Log.{text_of, line_after, end_line, period_lines, run_text}
 use Rattle.mp_model.specs.Stream.{LineKind, line_kind, without_events, plain_kinds, arrivals_of_kinds}
 use Rattle.mp_model.specs.Stream.LineKind.{skipped_line, arrivals_line, long_line, bad_line, hear_line, decide_line}
+use Rattle.mp_model.specs.declared.limits.TheConstants.{MOST_LINES}
 use Rattle.mp_laws.specs.Buckets.{IsFirstAbove}
 use Rattle.mp_text.specs.Cutting.{NoLineFeed, ended_lines}
 use Rattle.mp_step.specs.Standing.{Standing, Stands}
@@ -55,7 +56,7 @@ pub record IsAboveAt (net : Network) (text : List ℕ) (n p l : ℕ) : Type 0 wh
 -- The stream was read to its end, each of its lines was taken, at most 2^48 of them, its arrivals are permitted, and behind the head the text of the run over them was written.
 pub record Finished (net : Network) (head : List ℕ) (whole left was now : Option (List ℕ)) : Type 0 where
   pub kinds : List LineKind
-  pub few : length kinds ≤ 2 ^ 48
+  pub few : length kinds ≤ MOST_LINES
   pub permitted : IsPermitted net (arrivals_of_kinds kinds)
   pub read : Tells whole left (λ text rest. (rest ≡ []) × StartsWith net text kinds [])
   pub written : Tells was now (λ before after. after ≡ before ++ (head ++ run_text net (arrivals_of_kinds kinds)))
@@ -64,7 +65,7 @@ pub record Finished (net : Network) (head : List ℕ) (whole left was now : Opti
 pub record RefusedAt (net : Network) (head : List ℕ) (kind : LineKind) (n : ℕ) (whole left was now : Option (List ℕ)) : Type 0 where
   pub kinds : List LineKind
   pub number : n ≡ length kinds + 1
-  pub few : n ≤ 2 ^ 48
+  pub few : n ≤ MOST_LINES
   pub permitted : IsPermitted net (arrivals_of_kinds kinds)
   pub read : Tells whole left (λ text rest. (more : List LineKind) × StartsWith net text kinds (kind ∷ more))
   pub written : Tells was now (λ before after. after ≡ before ++ (head ++ text_of (period_lines net (arrivals_of_kinds kinds))))
@@ -74,7 +75,7 @@ pub record RefusedAbove (net : Network) (head : List ℕ) (n p l : ℕ) (whole l
   pub kinds : List LineKind
   pub counts : List ℕ
   pub number : n ≡ length kinds + 1
-  pub few : n ≤ 2 ^ 48
+  pub few : n ≤ MOST_LINES
   pub period : p ≡ length (arrivals_of_kinds kinds) + 1
   pub permitted : IsPermitted net (arrivals_of_kinds kinds)
   pub above : IsFirstAbove net (arrivals_of_kinds kinds) counts l
@@ -84,7 +85,7 @@ pub record RefusedAbove (net : Network) (head : List ℕ) (n p l : ℕ) (whole l
 -- The first 2^48 lines were taken, their arrivals are permitted, another line follows them, and behind the head the lines of their periods were written.
 pub record HasTooMany (net : Network) (head : List ℕ) (whole left was now : Option (List ℕ)) : Type 0 where
   pub kinds : List LineKind
-  pub number : length kinds ≡ 2 ^ 48
+  pub number : length kinds ≡ MOST_LINES
   pub permitted : IsPermitted net (arrivals_of_kinds kinds)
   pub read : Tells whole left (λ text rest. (kind : LineKind) × (more : List LineKind) × StartsWith net text kinds (kind ∷ more))
   pub written : Tells was now (λ before after. after ≡ before ++ (head ++ text_of (period_lines net (arrivals_of_kinds kinds))))
@@ -92,7 +93,7 @@ pub record HasTooMany (net : Network) (head : List ℕ) (whole left was now : Op
 -- The lines of the front that was read were taken, at most 2^48 of them, their arrivals are permitted, and behind the head the lines of their periods were written.
 pub record StopsReading (net : Network) (head : List ℕ) (whole left was now : Option (List ℕ)) : Type 0 where
   pub kinds : List LineKind
-  pub few : length kinds ≤ 2 ^ 48
+  pub few : length kinds ≤ MOST_LINES
   pub permitted : IsPermitted net (arrivals_of_kinds kinds)
   pub read : Tells whole left (ReadsFront net kinds [])
   pub written : Tells was now (λ before after. after ≡ before ++ (head ++ text_of (period_lines net (arrivals_of_kinds kinds))))
@@ -106,7 +107,7 @@ WritesPart net head kinds whole left was now =
 -- Lines of the front that was read were taken, at most 2^48 of them, their arrivals are permitted, and a part of what is written of them was written, with nothing of the end line before the end of the stream.
 pub record StopsWriting (net : Network) (head : List ℕ) (whole left was now : Option (List ℕ)) : Type 0 where
   pub kinds : List LineKind
-  pub few : length kinds ≤ 2 ^ 48
+  pub few : length kinds ≤ MOST_LINES
   pub permitted : IsPermitted net (arrivals_of_kinds kinds)
   pub read : Tells whole left (λ text rest. (more : List LineKind) × ReadsFront net kinds more text rest)
   pub written : WritesPart net head kinds whole left was now

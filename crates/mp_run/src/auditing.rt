@@ -4,8 +4,8 @@ ghost use Rattle.mp_edge.specs.Outside.{Tells, Rose};
 ghost use Rattle.mp_model.specs.Arrivals.{HasCounts};
 ghost use Rattle.mp_model.specs.Log.{header_lines};
 ghost use Rattle.mp_model.specs.Run.{opening};
-ghost use Rattle.mp_text.specs.Buffered.{MOST_BYTES};
-ghost use Rattle.mp_log.specs.Heading.{excess, denominator};
+ghost use Rattle.mp_model.specs.declared.limits.TheConstants.{MOST_LINES, MOST_LOG_LINE_BYTES};
+ghost use Rattle.mp_num.specs.Fraction.{numerator, denominator};
 ghost use Rattle.mp_press.specs.Queues.{naturals};
 ghost use Rattle.mp_step.specs.Standing.{Stands};
 ghost use Rattle.mp_step.specs.Taken.{HasTaken};
@@ -15,13 +15,11 @@ use arrayvec::ArrayVec;
 use mp_drift::Session;
 use mp_edge::Source;
 use mp_log::{header_lines, push_end, push_header_line, push_period, read_arrivals};
+use mp_model::limits::{MOST_LINES, MOST_LOG_LINE_BYTES};
 use mp_text::{LineCutter, LineSink, LineStep};
 
-/// The greatest number of periods of a log.
-const PERIOD_LIMIT: u64 = 1 << 48;
-
-/// The size of a buffer for lines of a log, of at most 16,384 bytes.
-const LOG_LINE_SIZE: usize = 16_385;
+/// The size of a buffer for lines of a log, each with its line feed.
+const LOG_LINE_SIZE: usize = MOST_LOG_LINE_BYTES + 1;
 
 /// How an audit ends. Lines are numbered from 1, and all lines count.
 #[derive(Clone, Copy, Debug, PartialEq, Eq)]
@@ -67,7 +65,7 @@ fn compare_next<In: Source>(
     cutter: &mut LineCutter<LOG_LINE_SIZE>,
     wanted: &[u8],
 ) -> Compared
-    requires { length wanted.now < MOST_BYTES }
+    requires { length wanted.now < MOST_LOG_LINE_BYTES }
     ensures told { Tells (In.left input.old) (In.left input.new) (Compares wanted.now result cutter.old cutter.new) }
     ensures later { In.faults input.old ≤ In.faults input.new }
     ensures failed { result ≡ Compared.Failed → Rose (In.faults input.old) (In.faults input.new) }
@@ -94,7 +92,7 @@ fn audit_header<In: Source>(
     wanted: &mut LineSink,
 ) -> Option<AuditEnd>
     requires { cutter.old.held ≡ [] }
-    ensures ends { MatchOption result (HasSeen (header_lines session.now.net (excess session.now.slack) (denominator session.now.slack) (naturals session.now.bounds)) (In.left input.old) (In.left input.new) cutter.new.held) (λ end. AuditsAs session.now.net (excess session.now.slack) (denominator session.now.slack) (naturals session.now.bounds) end (In.left input.old) (In.left input.new)) }
+    ensures ends { MatchOption result (HasSeen (header_lines session.now.net (numerator session.now.slack) (denominator session.now.slack) (naturals session.now.bounds)) (In.left input.old) (In.left input.new) cutter.new.held) (λ end. AuditsAs session.now.net (numerator session.now.slack) (denominator session.now.slack) (naturals session.now.bounds) end (In.left input.old) (In.left input.new)) }
     ensures later { In.faults input.old ≤ In.faults input.new }
     ensures read { result ≡ Some AuditEnd.Read → Rose (In.faults input.old) (In.faults input.new) }
 {
@@ -120,7 +118,7 @@ fn next_arrivals(session: &Session, line: &[u8], arrivals: &mut ArrayVec<u64, 12
 {
     let net = session.net();
     let period = session.state().period();
-    if period == PERIOD_LIMIT {
+    if period == MOST_LINES {
         return false;
     }
     read_arrivals(line, period + 1, net.fed().len(), arrivals).is_some()
@@ -130,7 +128,7 @@ fn next_arrivals(session: &Session, line: &[u8], arrivals: &mut ArrayVec<u64, 12
 fn is_period(session: &mut Session, line: &[u8], arrivals: &[u64], wanted: &mut LineSink) -> bool
     requires counts { HasCounts session.old.net arrivals.now }
     requires digits { All (λ a. a < 10 ^ 9) arrivals.now }
-    requires period { session.old.at.period < 2 ^ 48 }
+    requires period { session.old.at.period < MOST_LINES }
     ensures closes { MatchBool result ((session.new.at.period ≡ session.old.at.period + 1) × ClosesLogged session.old.net line.now arrivals.now session.old.at session.new.at) (RefutesCounts session.old.net line.now arrivals.now session.old.at) }
     ensures same { session.new ≡ record session.old { at = session.new.at; stages = session.new.stages } }
 {
@@ -236,7 +234,7 @@ fn audit_periods<In: Source>(
 ) -> AuditEnd
     requires start { Stands session.old.net session.old.at (opening session.old.net) }
     requires taken { HasTaken session.old.net session.old.at [] }
-    ensures ends { (whole : Option (List ℕ)) → HasSeen (header_lines session.old.net (excess session.old.slack) (denominator session.old.slack) (naturals session.old.bounds)) whole (In.left input.old) cutter.old.held → AuditsAs session.old.net (excess session.old.slack) (denominator session.old.slack) (naturals session.old.bounds) result whole (In.left input.new) }
+    ensures ends { (whole : Option (List ℕ)) → HasSeen (header_lines session.old.net (numerator session.old.slack) (denominator session.old.slack) (naturals session.old.bounds)) whole (In.left input.old) cutter.old.held → AuditsAs session.old.net (numerator session.old.slack) (denominator session.old.slack) (naturals session.old.bounds) result whole (In.left input.new) }
     ensures same { session.new ≡ record session.old { at = session.new.at; stages = session.new.stages } }
     ensures later { In.faults input.old ≤ In.faults input.new }
     ensures read { result ≡ AuditEnd.Read → Rose (In.faults input.old) (In.faults input.new) }
@@ -269,7 +267,7 @@ fn audit_periods<In: Source>(
 pub fn audit<In: Source>(session: &mut Session, input: &mut In) -> AuditEnd
     requires start { Stands session.old.net session.old.at (opening session.old.net) }
     requires taken { HasTaken session.old.net session.old.at [] }
-    ensures ends { AuditsAs session.old.net (excess session.old.slack) (denominator session.old.slack) (naturals session.old.bounds) result (In.left input.old) (In.left input.new) }
+    ensures ends { AuditsAs session.old.net (numerator session.old.slack) (denominator session.old.slack) (naturals session.old.bounds) result (In.left input.old) (In.left input.new) }
     ensures same { session.new ≡ record session.old { at = session.new.at; stages = session.new.stages } }
     ensures in_later { In.faults input.old ≤ In.faults input.new }
     ensures read { result ≡ AuditEnd.Read → Rose (In.faults input.old) (In.faults input.new) }

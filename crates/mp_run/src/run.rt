@@ -5,6 +5,7 @@ ghost use Rattle.mp_model.specs.Arrivals.{HasCounts, IsPermitted};
 ghost use Rattle.mp_model.specs.Run.{opening};
 ghost use Rattle.mp_model.specs.Stream.{plain_kind, without_events};
 ghost use Rattle.mp_model.specs.Stream.LineKind.{arrivals_line};
+ghost use Rattle.mp_model.specs.declared.limits.TheConstants.{MOST_LINES};
 ghost use Rattle.mp_press.specs.Queues.{naturals};
 ghost use Rattle.mp_step.specs.Standing.{Stands};
 ghost use Rattle.mp_step.specs.Taken.{HasTaken};
@@ -14,15 +15,13 @@ use arrayvec::ArrayVec;
 use mp_drift::Session;
 use mp_edge::{Failed, Sink, Source};
 use mp_log::{StreamLine, put_end, put_period_in, read_line};
+use mp_model::limits::{MOST_LINES, MOST_STREAM_LINE_BYTES};
 use mp_net::LinkNo;
 use mp_step::AboveAt;
 use mp_text::{LineCutter, LineSink, LineStep};
 
-/// The greatest number of lines of a stream.
-const LINE_LIMIT: u64 = 1 << 48;
-
-/// The size of a buffer for lines of a stream, of at most 2,048 bytes.
-const STREAM_LINE_SIZE: usize = 2_049;
+/// The size of a buffer for lines of a stream, each with its line feed.
+const STREAM_LINE_SIZE: usize = MOST_STREAM_LINE_BYTES + 1;
 
 /// How a run ends. Lines are numbered from 1, and all lines count.
 #[derive(Clone, Copy, Debug, PartialEq, Eq)]
@@ -63,7 +62,7 @@ fn close_period<Out: Sink>(
 ) -> Option<RunEnd>
     requires counts { HasCounts session.old.net arrivals.now }
     requires digits { All (λ a. a < 10 ^ 9) arrivals.now }
-    requires period { session.old.at.period < 2 ^ 48 }
+    requires period { session.old.at.period < MOST_LINES }
     ensures takes { TakesLine session.old.net (arrivals_line arrivals.now) line result session.old.at session.new.at (Out.held out.old) (Out.held out.new) }
     ensures same { session.new ≡ record session.old { at = session.new.at; stages = session.new.stages } }
     ensures period { session.new.at.period ≤ session.old.at.period + 1 }
@@ -95,7 +94,7 @@ fn take_line<Out: Sink>(
     text: &mut LineSink,
     out: &mut Out,
 ) -> Option<RunEnd>
-    requires period { session.old.at.period < 2 ^ 48 }
+    requires period { session.old.at.period < MOST_LINES }
     ensures takes { TakesLine session.old.net (without_events (plain_kind session.old.net line.now)) number result session.old.at session.new.at (Out.held out.old) (Out.held out.new) }
     ensures same { session.new ≡ record session.old { at = session.new.at; stages = session.new.stages } }
     ensures period { session.new.at.period ≤ session.old.at.period + 1 }
@@ -157,7 +156,7 @@ pub fn run_stream<In: Source, Out: Sink>(
     let mut cutter = LineCutter::<STREAM_LINE_SIZE>::new();
     let mut arrivals = ArrayVec::new();
     let mut text = LineSink::new();
-    for turn in 0..LINE_LIMIT {
+    for turn in 0..MOST_LINES {
         match cutter.next(input) {
             LineStep::Line => {
                 let line = cutter.line();

@@ -13,7 +13,7 @@ use Rattle.mp_flow.specs.declared.network.Place.{Place}
 use Rattle.mp_simplex.specs.declared.Optimum.{Optimum}
 use Rattle.mp_simplex.specs.Outcome.{Outcome, Optimal, Ray, Passes, Limit, maximised}
 use Rattle.mp_verdict.specs.Program.{program, optimum_at}
-use Rattle.mp_verdict.specs.Game.{turn_limit}
+use Rattle.mp_verdict.specs.declared.TheConstants.{TURN_LIMIT}
 use Rattle.mp_verdict.specs.Stated.{Reached, PassesAt, LimitAt}
 use Rattle.mp_verdict.proofs.Reaching.{optimum_reached}
 use Rattle.mp_trial.specs.Trials.{Trial, Fits, Unfit, PassesIn, LimitIn, is_above_whole, by_value, by_outcome, certificate_with, served_by}
@@ -77,32 +77,32 @@ serving_start net D e h = record { rest = refl }
 
 served_at : (net : Network) (D e : ℕ) (h : List ℕ) (mixes : List model.Mix) (j : ℕ) → j < length net.junctions →
     served_by net D e h mixes (drop j (junction_numbers net))
-    ≡ by_outcome D (j + 1) (maximised (program net (junction_at net (j + 1)) (map pos h)) turn_limit) (λ mix. served_by net D e h (mixes ++ mix ∷ []) (drop (j + 1) (junction_numbers net)))
+    ≡ by_outcome D (j + 1) (maximised (program net (junction_at net (j + 1)) (map pos h)) TURN_LIMIT) (λ mix. served_by net D e h (mixes ++ mix ∷ []) (drop (j + 1) (junction_numbers net)))
 unfolding served_by
 served_at net D e h mixes j lt =
     let n = length net.junctions in
     let size = length-range_with_len 1 n in
     let here : get_or (junction_numbers net) j 0 ≡ j + 1 = get_or-range_with_len 1 n j 0 lt ∙ omega arith in
     ap (served_by net D e h mixes) (drop_more (junction_numbers net) j 0 (omega (arith, size)))
-    ∙ ap (λ i. by_outcome D i (maximised (program net (junction_at net i) (map pos h)) turn_limit) (λ mix. served_by net D e h (mixes ++ mix ∷ []) (drop (j + 1) (junction_numbers net)))) here
+    ∙ ap (λ i. by_outcome D i (maximised (program net (junction_at net i) (map pos h)) TURN_LIMIT) (λ mix. served_by net D e h (mixes ++ mix ∷ []) (drop (j + 1) (junction_numbers net)))) here
 
 mixes-append : (xs : List Mix) (y : Mix) → map mix_of (xs ++ y ∷ []) ≡ map mix_of xs ++ mix_of y ∷ []
 mixes-append [] y = refl
 mixes-append (x ∷ xs) y = ap (λ zs. mix_of x ∷ zs) (mixes-append xs y)
 
 module _ (net : Network) (D e : ℕ) (h : List ℕ) (j : ℕ) (now : List Mix) (row : List ℤ) (s : Serving net D e h j now) (lt : j < length net.junctions) (cells : row ≡ pos D ∷ pos e ∷ map (λ rate. pos rate) h) where
-  served_here : served_by net D e h [] (junction_numbers net) ≡ by_outcome D (j + 1) (maximised (program net (junction_at net (j + 1)) (drop 2 row)) turn_limit) (λ mix. served_by net D e h (map mix_of now ++ mix ∷ []) (drop (j + 1) (junction_numbers net)))
+  served_here : served_by net D e h [] (junction_numbers net) ≡ by_outcome D (j + 1) (maximised (program net (junction_at net (j + 1)) (drop 2 row)) TURN_LIMIT) (λ mix. served_by net D e h (map mix_of now ++ mix ∷ []) (drop (j + 1) (junction_numbers net)))
   served_here =
       s.rest ∙ served_at net D e h (map mix_of now) j lt
-      ∙ ap (λ t. by_outcome D (j + 1) (maximised (program net (junction_at net (j + 1)) t) turn_limit) (λ mix. served_by net D e h (map mix_of now ++ mix ∷ []) (drop (j + 1) (junction_numbers net)))) (sym (ap (drop 2) cells))
+      ∙ ap (λ t. by_outcome D (j + 1) (maximised (program net (junction_at net (j + 1)) t) TURN_LIMIT) (λ mix. served_by net D e h (map mix_of now ++ mix ∷ []) (drop (j + 1) (junction_numbers net)))) (sym (ap (drop 2) cells))
 
-  pub serving_more : (mix : Mix) → GivesMix D (j + 1) (maximised (program net (junction_at net (j + 1)) (drop 2 row)) turn_limit) (Ok (Some mix)) → Serving net D e h (j + 1) (now ++ mix ∷ [])
+  pub serving_more : (mix : Mix) → GivesMix D (j + 1) (maximised (program net (junction_at net (j + 1)) (drop 2 row)) TURN_LIMIT) (Ok (Some mix)) → Serving net D e h (j + 1) (now ++ mix ∷ [])
   serving_more mix g = record { rest = served_here ∙ g _ ∙ ap (λ ms. served_by net D e h ms (drop (j + 1) (junction_numbers net))) (sym (mixes-append now mix)) }
 
-  pub serving_unfit : GivesMix D (j + 1) (maximised (program net (junction_at net (j + 1)) (drop 2 row)) turn_limit) (Ok None) → served_by net D e h [] (junction_numbers net) ≡ Unfit
+  pub serving_unfit : GivesMix D (j + 1) (maximised (program net (junction_at net (j + 1)) (drop 2 row)) TURN_LIMIT) (Ok None) → served_by net D e h [] (junction_numbers net) ≡ Unfit
   serving_unfit g = served_here ∙ g _
 
-  pub serving_fault : (f : ScaleFault) → GivesMix D (j + 1) (maximised (program net (junction_at net (j + 1)) (drop 2 row)) turn_limit) (Err f) → GivesTrial e (Err f) (served_by net D e h [] (junction_numbers net))
+  pub serving_fault : (f : ScaleFault) → GivesMix D (j + 1) (maximised (program net (junction_at net (j + 1)) (drop 2 row)) TURN_LIMIT) (Err f) → GivesTrial e (Err f) (served_by net D e h [] (junction_numbers net))
   serving_fault (fault.Sweeps x) g = absurd g
   serving_fault (fault.Overflow i) g = served_here ∙ g _
   serving_fault (fault.PivotLimit i) g = served_here ∙ g _

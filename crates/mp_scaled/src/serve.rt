@@ -3,7 +3,7 @@ ghost use Rattle.std.specs.Prelude.{◌≡◌, ◌∷◌, ◌+◌, ◌≤◌, le
 ghost use Rattle.mp_model.specs.Network.{junction_at, junction_numbers};
 ghost use Rattle.mp_model.specs.NetworkRules.{IsNetwork};
 ghost use Rattle.mp_simplex.specs.Outcome.{maximised};
-ghost use Rattle.mp_verdict.specs.Game.{turn_limit};
+ghost use Rattle.mp_verdict.specs.declared.TheConstants.{TURN_LIMIT};
 ghost use Rattle.mp_verdict.specs.Program.{program};
 ghost use Rattle.mp_verdict.specs.Mixes as stated;
 ghost use Rattle.mp_trial.specs.Trials.{is_above_whole, served_by};
@@ -17,10 +17,8 @@ use mp_flow::{CalcFault, Place};
 use mp_net::{JunctionNo, Net};
 use mp_num::{Numbers, mul};
 use mp_simplex::Optimum;
+use mp_verdict::TURN_LIMIT;
 use std::alloc::{AllocError, Global};
-
-/// The limit of pivots of a junction.
-const PIVOTS: u32 = 4096;
 
 /// The denominator and the excess, and then the rates of the movements.
 #[tactic(auto, using(crate::proofs::Serving::rowing))]
@@ -64,9 +62,9 @@ fn mix_at(
 ) -> Result<Option<Mix>, ScaleFault>
     requires junction { (1 ≤ j) × (j ≤ length net.now.junctions) }
     requires size { length row.now ≡ 2 + length net.now.movements }
-    ensures { GivesMix d j (maximised (program net.now (junction_at net.now j) (drop 2 row.now)) turn_limit) result }
+    ensures { GivesMix d j (maximised (program net.now (junction_at net.now j) (drop 2 row.now)) TURN_LIMIT) result }
 {
-    match optimum_at(alloc, net, j, row, PIVOTS, Place::Game(j)) {
+    match optimum_at(alloc, net, j, row, TURN_LIMIT, Place::Game(j)) {
         Ok(optimum) => match is_above_whole(d, &optimum) {
             Some(true) => Ok(None),
             Some(false) => Ok(Some(mix_of(optimum))),

@@ -5,7 +5,7 @@ use Rattle.std.proofs.lemmas.List.{drop_more, drop_all, drop-drop}
 use Rattle.mp_num.specs.Checked.{within}
 use Rattle.mp_num.specs.Divisor.{reduced}
 use Rattle.mp_simplex.specs.Pivoting.{pivoted, better, better_by, looked, against, leaving}
-use Rattle.mp_num.specs.Passing.{each, run, counting}
+use Rattle.mp_num.specs.Passing.{each, stepped, counting}
 use Rattle.mp_num.specs.Row.{entry, combined, rows_of}
 use Rattle.mp_simplex.specs.Tableau.{row_of}
 use Rattle.mp_num.proofs.TableLemmas.{get_or-rows_of, take-rows_of, drop-rows_of, rows_of-take, rows_of-append, rows_joined}
@@ -73,7 +73,7 @@ pub ruleset looks = (to_z-of_z, looked_low, looked_high, against_none, against_t
 
 -- The best row so far: what is left of the look gives what the whole gives.
 pub record Looking (j right count : ℕ) (rows : List (List ℤ)) (basis : List ℕ) (i : ℕ) (best : Option ℕ) : Type 0 where
-  pub rest : leaving j right count rows basis ≡ run (looked j right rows basis) best (drop (i - 1) (counting count 1))
+  pub rest : leaving j right count rows basis ≡ stepped (looked j right rows basis) best (drop (i - 1) (counting count 1))
   pub from_one : 1 ≤ i
   pub inside : IfSome best (λ b. b < 1 + count)
 
@@ -82,14 +82,14 @@ unfolding leaving
 looking_start j right count rows basis = record { rest = refl; from_one = omega arith; inside = search rules }
 
 looking_at : (j right count : ℕ) (rows : List (List ℤ)) (basis : List ℕ) (i : ℕ) (best : Option ℕ) → Looking j right count rows basis i best → i < 1 + count →
-    leaving j right count rows basis ≡ option_and_then (λ t. run (looked j right rows basis) t (drop (i + 1 - 1) (counting count 1))) (looked j right rows basis best i)
+    leaving j right count rows basis ≡ option_and_then (λ t. stepped (looked j right rows basis) t (drop (i + 1 - 1) (counting count 1))) (looked j right rows basis best i)
 looking_at j right count rows basis i best s h =
     let c : List ℕ = counting count 1 in
     let one : 1 ≤ i = s.from_one in
     let n : i - 1 < length c = omega (arith, length-counting count 1) in
     let at : get_or c (i - 1) 0 ≡ i = get_or-counting count 1 (i - 1) 0 (omega arith) ∙ omega arith in
     let next : i - 1 + 1 ≡ i + 1 - 1 = omega arith in
-    s.rest ∙ ap (run (looked j right rows basis) best) (drop_more c (i - 1) 0 n ∙ ap₂ (λ m k. m ∷ drop k c) at next) ∙ run_cons _ best i _
+    s.rest ∙ ap (stepped (looked j right rows basis) best) (drop_more c (i - 1) 0 n ∙ ap₂ (λ m k. m ∷ drop k c) at next) ∙ run_cons _ best i _
 
 pub looking_more : (j right count : ℕ) (rows : List (List ℤ)) (basis : List ℕ) (i : ℕ) (best next : Option ℕ) → Looking j right count rows basis i best → i < 1 + count →
     looked j right rows basis best i ≡ Some next → IfSome next (λ b. b < 1 + count) → Looking j right count rows basis (i + 1) next
@@ -100,7 +100,7 @@ pub looking_passes : (j right count : ℕ) (rows : List (List ℤ)) (basis : Lis
 looking_passes j right count rows basis i best s h e = looking_at j right count rows basis i best s h ∙ rw e refl
 
 pub looking_end : (j right count : ℕ) (rows : List (List ℤ)) (basis : List ℕ) (i : ℕ) (best : Option ℕ) → Looking j right count rows basis i best → 1 + count ≤ i → leaving j right count rows basis ≡ Some best
-unfolding run
+unfolding stepped
 looking_end j right count rows basis i best s h = s.rest ∙ rw (drop_all (i - 1) (counting count 1) (omega (arith, length-counting count 1))) refl
 
 pub ruleset leavings = (to_z-of_z, looking_start, looking_more, looking_passes, looking_end)

@@ -5,7 +5,7 @@ use Rattle.std.proofs.lemmas.List.{drop_more, drop_all, get_or_default}
 use Rattle.mp_num.specs.Checked.{within}
 use Rattle.mp_num.specs.Divisor.{reduced}
 use Rattle.mp_num.specs.Multiple.{lcm_of}
-use Rattle.mp_num.specs.Passing.{run, counting}
+use Rattle.mp_num.specs.Passing.{stepped, counting}
 use Rattle.mp_num.specs.Row.{entry}
 use Rattle.mp_num.proofs.OutcomeLemmas.{length-counting, get_or-counting, run_cons}
 use Rattle.mp_num.proofs.MultipleLemmas.{lcm_positive}
@@ -43,7 +43,7 @@ scale_positive (Some p) q e v h l = let r : pos 1 ≤ℤ p = lcm_positive q e p 
 pub ruleset scales = (to_z-of_z, scaled_slack, scaled_column, basis_positive, basis_inside, scale_positive)
 
 pub record Scaling (n m : ℕ) (rows : List (List ℤ)) (basis : List ℕ) (r : ℕ) (q : ℤ) : Type 0 where
-  pub rest : denominator n m rows basis ≡ run (scaled n rows basis) q (drop (r - 1) (counting m 1))
+  pub rest : denominator n m rows basis ≡ stepped (scaled n rows basis) q (drop (r - 1) (counting m 1))
   pub from_one : 1 ≤ r
   pub positive : pos 1 ≤ℤ q
 
@@ -52,13 +52,13 @@ unfolding denominator
 scaling_start n m rows basis = record { rest = refl; from_one = omega arith; positive = omega (arith, ints) }
 
 scaling_at : (n m : ℕ) (rows : List (List ℤ)) (basis : List ℕ) (r : ℕ) (q : ℤ) → Scaling n m rows basis r q → r < 1 + m →
-    denominator n m rows basis ≡ option_and_then (λ t. run (scaled n rows basis) t (drop (r + 1 - 1) (counting m 1))) (scaled n rows basis q r)
+    denominator n m rows basis ≡ option_and_then (λ t. stepped (scaled n rows basis) t (drop (r + 1 - 1) (counting m 1))) (scaled n rows basis q r)
 scaling_at n m rows basis r q s h =
     let one : 1 ≤ r = s.from_one in
     let l : r - 1 < length (counting m 1) = omega (arith, length-counting m 1) in
     let at : get_or (counting m 1) (r - 1) 0 ≡ r = get_or-counting m 1 (r - 1) 0 (omega arith) ∙ omega arith in
     let next : r - 1 + 1 ≡ r + 1 - 1 = omega arith in
-    s.rest ∙ ap (run (scaled n rows basis) q) (drop_more (counting m 1) (r - 1) 0 l ∙ ap₂ (λ m' k. m' ∷ drop k (counting m 1)) at next) ∙ run_cons _ q r _
+    s.rest ∙ ap (stepped (scaled n rows basis) q) (drop_more (counting m 1) (r - 1) 0 l ∙ ap₂ (λ m' k. m' ∷ drop k (counting m 1)) at next) ∙ run_cons _ q r _
 
 pub scaling_more : (n m : ℕ) (rows : List (List ℤ)) (basis : List ℕ) (r : ℕ) (q p : ℤ) → Scaling n m rows basis r q → r < 1 + m → scaled n rows basis q r ≡ Some p → pos 1 ≤ℤ p → Scaling n m rows basis (r + 1) p
 scaling_more n m rows basis r q p s h e l = record { rest = scaling_at n m rows basis r q s (omega arith) ∙ rw e refl; from_one = omega arith; positive = l }
@@ -67,7 +67,7 @@ pub scaling_passes : (n m : ℕ) (rows : List (List ℤ)) (basis : List ℕ) (r 
 scaling_passes n m rows basis r q s h e = scaling_at n m rows basis r q s (omega arith) ∙ rw e refl
 
 pub scaling_end : (n m : ℕ) (rows : List (List ℤ)) (basis : List ℕ) (r : ℕ) (q : ℤ) → Scaling n m rows basis r q → m < r → denominator n m rows basis ≡ Some q
-unfolding run
+unfolding stepped
 scaling_end n m rows basis r q s h = s.rest ∙ rw (drop_all (r - 1) (counting m 1) (omega (arith, length-counting m 1))) refl
 
 pub ruleset denominators = (to_z-of_z, scaling_start, scaling_more, scaling_passes, scaling_end)

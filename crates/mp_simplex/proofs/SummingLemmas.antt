@@ -4,22 +4,22 @@ use Rattle.std.proofs.lemmas.List.{drop_more, drop_all}
 use Rattle.std.proofs.lemmas.Nat.{mul-add-lt}
 use Rattle.std.proofs.Math.Nat.{mul-one}
 use Rattle.mp_num.specs.Checked.{within}
-use Rattle.mp_num.specs.Passing.{run, counting}
+use Rattle.mp_num.specs.Passing.{stepped, counting}
 use Rattle.mp_num.specs.Row.{entry}
 use Rattle.mp_num.proofs.OutcomeLemmas.{length-counting, get_or-counting, run_cons}
 use Rattle.mp_simplex.specs.Checking.{all_hold, and_then, both, has_value, same_products, product_added, plus_term, dot, HasTerms}
 
 pub record Summing (count : ℕ) (u v : ℕ → ℤ) (k : ℕ) (sum : ℤ) : Type 0 where
-  pub rest : dot count u v ≡ run (plus_term u v) sum (drop k (counting count 0))
+  pub rest : dot count u v ≡ stepped (plus_term u v) sum (drop k (counting count 0))
 
 pub summing_start : (count : ℕ) (u v : ℕ → ℤ) → Summing count u v 0 (pos 0)
 unfolding dot
 summing_start count u v = record { rest = refl }
 
-summing_at : (count : ℕ) (u v : ℕ → ℤ) (k : ℕ) (sum : ℤ) → Summing count u v k sum → k < count → dot count u v ≡ option_and_then (λ t. run (plus_term u v) t (drop (k + 1) (counting count 0))) (plus_term u v sum k)
+summing_at : (count : ℕ) (u v : ℕ → ℤ) (k : ℕ) (sum : ℤ) → Summing count u v k sum → k < count → dot count u v ≡ option_and_then (λ t. stepped (plus_term u v) t (drop (k + 1) (counting count 0))) (plus_term u v sum k)
 summing_at count u v k sum s h =
     let at : get_or (counting count 0) k 0 ≡ k = get_or-counting count 0 k 0 h ∙ omega arith in
-    s.rest ∙ ap (run (plus_term u v) sum) (drop_more (counting count 0) k 0 (omega (arith, length-counting count 0)) ∙ ap (λ m. m ∷ drop (k + 1) (counting count 0)) at) ∙ run_cons _ sum k _
+    s.rest ∙ ap (stepped (plus_term u v) sum) (drop_more (counting count 0) k 0 (omega (arith, length-counting count 0)) ∙ ap (λ m. m ∷ drop (k + 1) (counting count 0)) at) ∙ run_cons _ sum k _
 
 pub summing_more : (count : ℕ) (u v : ℕ → ℤ) (k : ℕ) (sum next : ℤ) → Summing count u v k sum → k < count → product_added sum (u k) (v k) ≡ Some next → Summing count u v (k + 1) next
 summing_more count u v k sum next s h e = record { rest = summing_at count u v k sum s h ∙ rw e refl }
@@ -28,7 +28,7 @@ pub summing_passes : (count : ℕ) (u v : ℕ → ℤ) (k : ℕ) (sum : ℤ) →
 summing_passes count u v k sum s h e = summing_at count u v k sum s h ∙ rw e refl
 
 pub summing_end : (count : ℕ) (u v : ℕ → ℤ) (k : ℕ) (sum : ℤ) → Summing count u v k sum → count ≤ k → dot count u v ≡ Some sum
-unfolding run
+unfolding stepped
 summing_end count u v k sum s h = s.rest ∙ rw (drop_all k (counting count 0) (omega (arith, length-counting count 0))) refl
 
 pub term_inside : (size start step count k : ℕ) → HasTerms size start step count → k < count → start + k * step < size
@@ -71,25 +71,25 @@ pub ruleset sames = (to_z-of_z, same_first_none, same_second_none, same_both)
 
 -- the flags so far
 pub record Holding (f : ℕ → Option Bool) (count k : ℕ) (ok : Bool) : Type 0 where
-  pub rest : all_hold f count ≡ run (and_then f) ok (drop k (counting count 0))
+  pub rest : all_hold f count ≡ stepped (and_then f) ok (drop k (counting count 0))
 
 pub holding_start : (f : ℕ → Option Bool) (count : ℕ) → Holding f count 0 true
 unfolding all_hold
 holding_start f count = record { rest = refl }
 
-holding_at : (f : ℕ → Option Bool) (count k : ℕ) (ok : Bool) → Holding f count k ok → k < count → all_hold f count ≡ option_and_then (λ t. run (and_then f) t (drop (k + 1) (counting count 0))) (and_then f ok k)
+holding_at : (f : ℕ → Option Bool) (count k : ℕ) (ok : Bool) → Holding f count k ok → k < count → all_hold f count ≡ option_and_then (λ t. stepped (and_then f) t (drop (k + 1) (counting count 0))) (and_then f ok k)
 holding_at f count k ok s h =
     let at : get_or (counting count 0) k 0 ≡ k = get_or-counting count 0 k 0 h ∙ omega arith in
-    s.rest ∙ ap (run (and_then f) ok) (drop_more (counting count 0) k 0 (omega (arith, length-counting count 0)) ∙ ap (λ m. m ∷ drop (k + 1) (counting count 0)) at) ∙ run_cons _ ok k _
+    s.rest ∙ ap (stepped (and_then f) ok) (drop_more (counting count 0) k 0 (omega (arith, length-counting count 0)) ∙ ap (λ m. m ∷ drop (k + 1) (counting count 0)) at) ∙ run_cons _ ok k _
 
 pub holding_more : (f : ℕ → Option Bool) (count k : ℕ) (ok next : Bool) → Holding f count k ok → k < count → both (Some ok) (f k) ≡ Some next → Holding f count (k + 1) next
-holding_more f count k ok next s h e = record { rest = holding_at f count k ok s h ∙ ap (option_and_then (λ t. run (and_then f) t (drop (k + 1) (counting count 0)))) e }
+holding_more f count k ok next s h e = record { rest = holding_at f count k ok s h ∙ ap (option_and_then (λ t. stepped (and_then f) t (drop (k + 1) (counting count 0)))) e }
 
 pub holding_passes : (f : ℕ → Option Bool) (count k : ℕ) (ok : Bool) → Holding f count k ok → k < count → both (Some ok) (f k) ≡ None → all_hold f count ≡ None
-holding_passes f count k ok s h e = holding_at f count k ok s h ∙ ap (option_and_then (λ t. run (and_then f) t (drop (k + 1) (counting count 0)))) e
+holding_passes f count k ok s h e = holding_at f count k ok s h ∙ ap (option_and_then (λ t. stepped (and_then f) t (drop (k + 1) (counting count 0)))) e
 
 pub holding_end : (f : ℕ → Option Bool) (count k : ℕ) (ok : Bool) → Holding f count k ok → count ≤ k → all_hold f count ≡ Some ok
-unfolding run
+unfolding stepped
 holding_end f count k ok s h = s.rest ∙ rw (drop_all k (counting count 0) (omega (arith, length-counting count 0))) refl
 
 pub ruleset alls = (to_z-of_z, holding_start, holding_more, holding_passes, holding_end)

@@ -3,7 +3,7 @@ use Rattle.std.proofs.Common.{◌≡◌, [], ◌∷◌, pos, negsuc, true, Some,
 use Rattle.mp_num.specs.Checked.{within}
 use Rattle.mp_num.specs.Divisor.{euclid, gcd_of, divisor, divided, reduced}
 use Rattle.mp_num.specs.Multiple.{lcm_of}
-use Rattle.mp_num.specs.Passing.{each2, each, run}
+use Rattle.mp_num.specs.Passing.{each2, each, stepped}
 use Rattle.mp_num.specs.Row.{combined_entry, combined}
 use Rattle.mp_simplex.specs.declared.Lp.{Lp}
 use Rattle.mp_simplex.specs.declared.Optimum.{Optimum}
@@ -30,5 +30,5 @@ record AreWorkedPrograms : Type 0 where
   without_end : maximised endless 0 ≡ Ray (pos 1 ∷ [])
 
 worked_programs : AreWorkedPrograms
-unfolding within euclid gcd_of divisor divided reduced lcm_of each2 each run combined_entry combined product_added dot all_hold has_value checked cost_cell slack_cell first_row first_rows denominator primal_at primal ray_at ray numbers_over denominator_over maximised entering better looked leaving choice pivoted turns
+unfolding within euclid gcd_of divisor divided reduced lcm_of each2 each stepped combined_entry combined product_added dot all_hold has_value checked cost_cell slack_cell first_row first_rows denominator primal_at primal ray_at ray numbers_over denominator_over maximised entering better looked leaving choice pivoted turns
 worked_programs = record { by_two_pivots = refl; checks = refl; by_one_pivot = refl; without_end = refl }

@@ -3,7 +3,7 @@ use Rattle.std.specs.Prelude.{ℕ, ◌+◌, ◌*◌, ◌<◌, ℤ, pos, ◌+ℤ�
 use Rattle.std.specs.Ordering.{int_eq}
 use Rattle.std.specs.Option.{is_none}
 use Rattle.mp_num.specs.Checked.{within}
-use Rattle.mp_num.specs.Passing.{run, counting}
+use Rattle.mp_num.specs.Passing.{stepped, counting}
 use Rattle.mp_num.specs.Row.{entry}
 use Rattle.mp_simplex.specs.declared.Lp.{Lp}
 use Rattle.mp_simplex.specs.declared.Optimum.{Optimum}
@@ -19,7 +19,7 @@ plus_term u v s k = product_added s (u k) (v k)
 
 -- The sum of n products begins at 0.
 unfoldable pub dot : ℕ → (ℕ → ℤ) → (ℕ → ℤ) → Option ℤ
-dot n u v = run (plus_term u v) (pos 0) (counting n 0)
+dot n u v = stepped (plus_term u v) (pos 0) (counting n 0)
 
 -- A sum is at most a product, where both are there.
 abbrev pub at_most : Option ℤ → Option ℤ → Option Bool
@@ -47,7 +47,7 @@ and_then f ok k = both (Some ok) (f k)
 
 -- All tests up to a count hold; each is formed, whatever the others say.
 unfoldable pub all_hold : (ℕ → Option Bool) → ℕ → Option Bool
-all_hold f count = run (and_then f) true (counting count 0)
+all_hold f count = stepped (and_then f) true (counting count 0)
 
 -- Two products are equal, where both are there.
 abbrev pub same_products : Option ℤ → Option ℤ → Option Bool

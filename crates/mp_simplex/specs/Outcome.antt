@@ -3,7 +3,7 @@ use Rattle.std.specs.Prelude.{ℕ, zero, suc, ◌+◌, ◌*◌, ◌-◌, ℤ, po
 use Rattle.mp_num.specs.Checked.{within}
 use Rattle.mp_num.specs.Divisor.{reduced}
 use Rattle.mp_num.specs.Fraction.{lowest_terms}
-use Rattle.mp_num.specs.Passing.{each, run, counting}
+use Rattle.mp_num.specs.Passing.{each, stepped, counting}
 use Rattle.mp_num.specs.Multiple.{lcm_of}
 use Rattle.mp_num.specs.Row.{entry}
 use Rattle.mp_simplex.specs.declared.Lp.{Lp}
@@ -48,7 +48,7 @@ scaled n rows basis q r = if nat_lt n (basic_of basis r) then Some q else lcm_of
 
 -- The denominator is the least common multiple of the columns' entries in their rows.
 unfoldable pub denominator : ℕ → ℕ → List (List ℤ) → List ℕ → Option ℤ
-denominator n m rows basis = run (scaled n rows basis) (pos 1) (counting m 1)
+denominator n m rows basis = stepped (scaled n rows basis) (pos 1) (counting m 1)
 
 -- The basic row of a variable is the row in which it is basic.
 abbrev pub basic_row : ℕ → List ℕ → Option ℕ

@@ -3,7 +3,7 @@ use Rattle.std.specs.Prelude.{ℕ, zero, suc, ◌+◌, ◌-◌, ℤ, pos, ◌*�
 use Rattle.std.specs.Ordering.{int_eq}
 use Rattle.mp_num.specs.Checked.{within}
 use Rattle.mp_num.specs.Divisor.{reduced}
-use Rattle.mp_num.specs.Passing.{each, run, counting}
+use Rattle.mp_num.specs.Passing.{each, stepped, counting}
 use Rattle.mp_num.specs.Row.{entry, combined}
 use Rattle.mp_simplex.specs.declared.turns.Choice.{Choice}
 use Rattle.mp_simplex.specs.declared.turns.Choice.TheVariants.{Best, Endless, Passing, Leaves}
@@ -43,7 +43,7 @@ looked j right rows basis best i = if int_lt (pos 0) (entry (get_or rows i []) j
 
 -- The leaving row is the best of rows 1 to count, if any has a positive entry at j.
 unfoldable pub leaving : ℕ → ℕ → ℕ → List (List ℤ) → List ℕ → Option (Option ℕ)
-leaving j right count rows basis = run (looked j right rows basis) None (counting count 1)
+leaving j right count rows basis = stepped (looked j right rows basis) None (counting count 1)
 
 -- The ratio test leads to a pivot, to an endless variable, or passes.
 abbrev pub leaving_choice : ℕ → Option (Option ℕ) → Choice

@@ -1,5 +1,6 @@
 -- What a state shows, and what it keeps.
 use Rattle.std.specs.Prelude.{◌≡◌, ◌≤◌, ◌+◌, ◌*◌, ◌^◌, length, map, sum}
+use Rattle.mp_model.specs.declared.limits.TheConstants.{MOST_LINES}
 use Rattle.mp_press.specs.Queues.{naturals, NoneNegative}
 use Rattle.mp_step.specs.BucketLevels.{AreWithin}
 use Rattle.mp_step.specs.Standing.{Standing}
@@ -22,7 +23,7 @@ standing_of s = record {
 pub record IsKept (s : Inside) : Type 0 where
   pub some : NoneNegative s.queues.items
   pub next_some : NoneNegative s.next_queues.items
-  pub period : s.period ≤ 2 ^ 48
+  pub period : s.period ≤ MOST_LINES
   pub few : s.total_in ≤ 512 * 10 ^ 6 + s.period * 1408000
   pub conserved : s.total_in ≡ s.total_out + sum (naturals s.queues.items)
   pub within : AreWithin s.buckets.items s.levels.items

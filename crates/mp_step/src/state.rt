@@ -4,6 +4,7 @@ ghost use Rattle.mp_model.specs.Network.{Network, entry};
 ghost use Rattle.mp_model.specs.Arrivals.{arrivals_of, HasCounts};
 ghost use Rattle.mp_model.specs.Step.{State as StateOfModel, AreStages, step};
 ghost use Rattle.mp_model.specs.Run.{opening};
+ghost use Rattle.mp_model.specs.declared.limits.TheConstants.{MOST_LINES};
 ghost use Rattle.mp_laws.specs.Buckets.{IsFirstAbove};
 ghost use Rattle.mp_press.specs.Queues.{naturals, AreCounts};
 ghost use Rattle.mp_step.specs.BucketLevels.{first_above, IsRoom};
@@ -112,7 +113,7 @@ impl State {
     /// The number of periods so far.
     pub fn period(&self) -> u64
         ensures value { result ≡ self.now.period }
-        ensures few { result ≤ 2 ^ 48 }
+        ensures few { result ≤ MOST_LINES }
     {
         self.period
     }
@@ -157,7 +158,7 @@ impl State {
         requires stages { AreStages net.now.junctions stages.now }
         requires counts { HasCounts net.now arrivals.now }
         requires digits { All (λ a. a < 10 ^ 9) arrivals.now }
-        requires period { self.old.period < 2 ^ 48 }
+        requires period { self.old.period < MOST_LINES }
         ensures above { IfErr result (λ above. first_above net.now (entry self.old.levels) arrivals.now ≡ Some above.link) }
         ensures excess { IfErr result (λ above. (A : List (List ℕ)) → HasTaken net.now self.old A → IsFirstAbove net.now A arrivals.now above.link) }
         ensures stays { OnErr result (self.new ≡ self.old) }

@@ -1,30 +1,31 @@
 //! A sink over a fixed buffer, for one line.
 ghost use Rattle.std.specs.Prelude.{◌≡◌, ◌≤◌, ◌<◌, ◌+◌, ◌++◌, ◌↔◌, [], length, IsErr, OnOk, OnErr, Some};
 ghost use Rattle.mp_edge.specs.Outside.{next_count, Tells, Puts, HasCause};
-ghost use Rattle.mp_text.specs.Buffered.{Buffered, MOST_BYTES};
+ghost use Rattle.mp_model.specs.declared.limits.TheConstants.{MOST_LOG_LINE_BYTES};
+ghost use Rattle.mp_text.specs.Buffered.{Buffered};
 
 use mp_edge::{Failed, Sink};
+use mp_model::limits::MOST_LOG_LINE_BYTES;
 use std::marker::Model;
-
-const SIZE: usize = 16_384;
 
 /// A sink that holds at most 16,384 bytes, and is emptied by `clear`.
 #[derive(Drop)]
 pub struct LineSink {
-    buf: [u8; SIZE],
+    buf: [u8; MOST_LOG_LINE_BYTES],
     len: usize,
     faults: u64,
 }
 
 impl Model for LineSink {
     ghost use Rattle.std.specs.Prelude.{◌≤◌, take};
+    ghost use Rattle.mp_model.specs.declared.limits.TheConstants.{MOST_LOG_LINE_BYTES};
     ghost use Rattle.mp_text.specs.Buffered.{Buffered};
 
     ghost Value = { Buffered };
 
     ghost view = { λ s. record { held = take s.len s.buf; faults = s.faults } };
 
-    ghost invariant = { λ s. s.len ≤ 16384 };
+    ghost invariant = { λ s. s.len ≤ MOST_LOG_LINE_BYTES };
 }
 
 impl LineSink {
@@ -33,7 +34,7 @@ impl LineSink {
         ensures { result ≡ record { held = []; faults = 0 } }
     {
         LineSink {
-            buf: [0; SIZE],
+            buf: [0; MOST_LOG_LINE_BYTES],
             len: 0,
             faults: 0,
         }
@@ -42,7 +43,7 @@ impl LineSink {
     /// What was put since the last `clear`.
     pub fn bytes(&self) -> &[u8]
         ensures value { result.now ≡ self.now.held }
-        ensures few { length self.now.held ≤ MOST_BYTES }
+        ensures few { length self.now.held ≤ MOST_LOG_LINE_BYTES }
     {
         &self.buf[..self.len]
     }
@@ -64,11 +65,11 @@ impl Sink for LineSink {
     fn put(&mut self, bytes: &[u8]) -> Result<(), Failed>
         ensures bytes { Tells (Some self.old.held) (Some self.new.held) (Puts result bytes.now) }
         ensures cause { HasCause self.old.faults self.new.faults result }
-        ensures full { IsErr result ↔ (MOST_BYTES < length self.old.held + length bytes.now) }
+        ensures full { IsErr result ↔ (MOST_LOG_LINE_BYTES < length self.old.held + length bytes.now) }
         ensures ok { OnOk result (self.new ≡ record self.old { held = self.old.held ++ bytes.now }) }
         ensures err { OnErr result (self.new ≡ record self.old { faults = next_count self.old.faults }) }
     {
-        if bytes.len() > SIZE - self.len {
+        if bytes.len() > MOST_LOG_LINE_BYTES - self.len {
             self.faults = self.faults.saturating_add(1);
             return Err(Failed);
         }

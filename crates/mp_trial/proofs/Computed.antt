@@ -3,7 +3,7 @@ use Rattle.std.proofs.Common.{refl}
 use Rattle.mp_num.specs.Checked.{within}
 use Rattle.mp_num.specs.Divisor.{euclid, gcd_of, divisor, divided, reduced}
 use Rattle.mp_num.specs.Multiple.{lcm_of}
-use Rattle.mp_num.specs.Passing.{each2, each, run}
+use Rattle.mp_num.specs.Passing.{each2, each, stepped}
 use Rattle.mp_num.specs.Row.{combined_entry, combined}
 use Rattle.mp_simplex.specs.Outcome.{cost_cell, slack_cell, first_row, first_rows, denominator, primal_at, primal, numbers_over, denominator_over, maximised}
 use Rattle.mp_simplex.specs.Pivoting.{entering, better, looked, leaving, choice, pivoted, turns}
@@ -13,5 +13,5 @@ use Rattle.mp_trial.specs.Search.{halved, scaled}
 use Rattle.mp_trial.specs.WorkedScales.{AreWorkedScales}
 
 pub worked : AreWorkedScales
-unfolding within euclid gcd_of divisor divided reduced lcm_of each2 each run combined_entry combined cost_cell slack_cell first_row first_rows denominator primal_at primal numbers_over denominator_over maximised entering better looked leaving choice pivoted turns swept_rate swept rates_after is_last_after sweeps_before_last is_above_whole served_by trial halved scaled
+unfolding within euclid gcd_of divisor divided reduced lcm_of each2 each stepped combined_entry combined cost_cell slack_cell first_row first_rows denominator primal_at primal numbers_over denominator_over maximised entering better looked leaving choice pivoted turns swept_rate swept rates_after is_last_after sweeps_before_last is_above_whole served_by trial halved scaled
 worked = record { four = refl; two = refl; one = refl; queues = refl; circle = refl }

@@ -15,7 +15,7 @@ use Rattle.mp_simplex.specs.declared.Optimum.{Optimum}
 use Rattle.mp_simplex.specs.Outcome.{Optimal, maximised}
 use Rattle.mp_verdict.specs.Worst.{stage_top}
 use Rattle.mp_verdict.specs.Program.{program}
-use Rattle.mp_verdict.specs.Game.{turn_limit}
+use Rattle.mp_verdict.specs.declared.TheConstants.{TURN_LIMIT}
 use Rattle.mp_verdict.proofs.Plain.{objective, values_of}
 use Rattle.mp_verdict.proofs.Signed.{mul_posℤ, mul_le_nat}
 use Rattle.mp_verdict.proofs.Duality.{weak_duality, cancel_le}
@@ -58,9 +58,9 @@ pub entry_is : (h : List ℕ) (k : ℕ) → int_entry (map pos h) k ≡ pos (ent
 entry_is h k = get_or-map pos h (k - 1) 0
 
 -- the optimum of a junction's program solves it
-pub solved_at : (net : Network) → IsNetwork net → (h : List ℕ) (j : ℕ) → has (junction_numbers net) j ≡ true → (o : Optimum) → maximised (program net (junction_at net j) (map pos h)) turn_limit ≡ Optimal o →
+pub solved_at : (net : Network) → IsNetwork net → (h : List ℕ) (j : ℕ) → has (junction_numbers net) j ≡ true → (o : Optimum) → maximised (program net (junction_at net j) (map pos h)) TURN_LIMIT ≡ Optimal o →
     IsSolved net (junction_at net j) (int_entry (map pos h)) o
-solved_at net ok h j i o e = let b = in_numbers (length net.junctions) j i in solved_by net (junction_at net j) (map pos h) ok (good_at net net.junctions (j - 1) (omega (arith, b)) ok.stages) turn_limit o e
+solved_at net ok h j i o e = let b = in_numbers (length net.junctions) j i in solved_by net (junction_at net j) (map pos h) ok (good_at net net.junctions (j - 1) (omega (arith, b)) ok.stages) TURN_LIMIT o e
 
 swap : (m n : ℕ) (v : ℤ) → pos m *ℤ (pos n *ℤ v) ≡ pos n *ℤ (pos m *ℤ v)
 swap m n v = rw (diff_of v, pos_diff m, pos_diff n) (simp differences (diff-eq _ _ _ _ (omega arith)))

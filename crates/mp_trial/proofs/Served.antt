@@ -7,7 +7,7 @@ use Rattle.mp_model.specs.Certificate.{Cert, Mix, no_mix}
 use Rattle.mp_simplex.specs.declared.Optimum.{Optimum}
 use Rattle.mp_simplex.specs.Outcome.{Outcome, Optimal, Ray, Passes, Limit, maximised}
 use Rattle.mp_verdict.specs.Program.{program}
-use Rattle.mp_verdict.specs.Game.{turn_limit}
+use Rattle.mp_verdict.specs.declared.TheConstants.{TURN_LIMIT}
 use Rattle.mp_verdict.specs.Mixes.{mix_of}
 use Rattle.mp_trial.specs.Trials.{Trial, Fits, Unfit, is_above_whole, by_value, by_outcome, certificate_with, served_by}
 
@@ -41,7 +41,7 @@ fits_outcome D j Limit go cert e k = absurd (cc)
 -- the mix of a junction comes from an optimum of its program that is at most the denominator
 pub record IsMixAt (net : Network) (D : ℕ) (h : List ℕ) (j : ℕ) (mix : Mix) : Type 0 where
   pub o : Optimum
-  pub optimal : maximised (program net (junction_at net j) (map pos h)) turn_limit ≡ Optimal o
+  pub optimal : maximised (program net (junction_at net j) (map pos h)) TURN_LIMIT ≡ Optimal o
   pub most : is_above_whole D o ≡ Some false
   pub same : mix ≡ mix_of o
 
@@ -74,7 +74,7 @@ module _ (net : Network) (D e : ℕ) (h : List ℕ) where
   unfolding served_by
   fitting [] before cert s = record { rest = []; all = tt; same = ap (certificate_with D e h) (append-nil before) ∙ same_fits (certificate_with D e h before) cert s }
   fitting (j ∷ js) before cert s =
-      fits_outcome D j (maximised (program net (junction_at net j) (map pos h)) turn_limit) _ cert s (λ o optimal most s'.
+      fits_outcome D j (maximised (program net (junction_at net j) (map pos h)) TURN_LIMIT) _ cert s (λ o optimal most s'.
       (let r = fitting js (before ++ mix_of o ∷ []) cert s' in
       record {
         rest = mix_of o ∷ r.rest;
@@ -84,12 +84,12 @@ module _ (net : Network) (D e : ℕ) (h : List ℕ) where
 
   -- a trial is unfit at the junctions only where the value of a program is above the denominator
   pub never_unfit : (js : List ℕ) (before : List Mix) → AllByRecursion (λ j. has (junction_numbers net) j ≡ true) js →
-      ((j : ℕ) → has (junction_numbers net) j ≡ true → (o : Optimum) → maximised (program net (junction_at net j) (map pos h)) turn_limit ≡ Optimal o → is_above_whole D o ≡ Some true → ⊥) →
+      ((j : ℕ) → has (junction_numbers net) j ≡ true → (o : Optimum) → maximised (program net (junction_at net j) (map pos h)) TURN_LIMIT ≡ Optimal o → is_above_whole D o ≡ Some true → ⊥) →
       served_by net D e h before js ≡ Unfit → ⊥
   unfolding served_by
   never_unfit [] before all none s = cc
   never_unfit (j ∷ js) before all none s =
-      unfit_outcome D j (maximised (program net (junction_at net j) (map pos h)) turn_limit) _ s (λ o optimal above. none j all.0 o optimal above) (λ o s'. never_unfit js (before ++ mix_of o ∷ []) all.1 none s')
+      unfit_outcome D j (maximised (program net (junction_at net j) (map pos h)) TURN_LIMIT) _ s (λ o optimal above. none j all.0 o optimal above) (λ o s'. never_unfit js (before ++ mix_of o ∷ []) all.1 none s')
 
 -- ---- the last sweep
 pub found_passes : (p : ℕ → Bool) (xs : List ℕ) (i : ℕ) → find p xs ≡ Some i → p i ≡ true

@@ -6,7 +6,7 @@ use Rattle.mp_model.specs.Certificate.{Mix, Cert}
 use Rattle.mp_simplex.specs.declared.Optimum.{Optimum}
 use Rattle.mp_simplex.specs.Outcome.{Outcome, Optimal, Ray, Passes, Limit, maximised}
 use Rattle.mp_verdict.specs.Program.{program}
-use Rattle.mp_verdict.specs.Game.{turn_limit}
+use Rattle.mp_verdict.specs.declared.TheConstants.{TURN_LIMIT}
 use Rattle.mp_verdict.specs.Mixes.{mix_of}
 use Rattle.mp_trial.specs.Sweeps.{rates_after, is_above, sweeps_before_last}
 
@@ -43,7 +43,7 @@ certificate_with D e h mixes = record { d = pos D; e = pos e; h = map pos h; mix
 unfoldable pub served_by : Network → ℕ → ℕ → List ℕ → List Mix → List ℕ → Trial
 served_by net D e h mixes [] = Fits (certificate_with D e h mixes)
 served_by net D e h mixes (j ∷ js) =
-    by_outcome D j (maximised (program net (junction_at net j) (map pos h)) turn_limit) (λ mix. served_by net D e h (mixes ++ mix ∷ []) js)
+    by_outcome D j (maximised (program net (junction_at net j) (map pos h)) TURN_LIMIT) (λ mix. served_by net D e h (mixes ++ mix ∷ []) js)
 
 -- The trial is unfit where the last sweep brings some rate above its flow; otherwise it goes on with the junctions at the rates that this sweep leaves as they are.
 abbrev pub by_sweeps : Network → ℕ → ℕ → Option ℕ → Trial

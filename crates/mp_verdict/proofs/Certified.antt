@@ -17,7 +17,8 @@ use Rattle.mp_simplex.specs.Outcome.{Optimal, maximised}
 use Rattle.mp_verdict.specs.Stated.{Reached}
 use Rattle.mp_verdict.specs.Rates.{Rates, rates_at}
 use Rattle.mp_verdict.specs.Program.{program, optimum_at}
-use Rattle.mp_verdict.specs.Game.{Standing, turn_limit}
+use Rattle.mp_verdict.specs.Game.{Score}
+use Rattle.mp_verdict.specs.declared.TheConstants.{TURN_LIMIT}
 use Rattle.mp_verdict.specs.Mixes.{mix_of, mixed, mixes, certificate_of}
 use Rattle.mp_verdict.proofs.Plain.{AreRates, asked, unit_asked, values_of}
 use Rattle.mp_verdict.proofs.Signed.{mul_posℤ}
@@ -45,13 +46,13 @@ some_excess (suc E) q a D e ha hd = omega arith
 -- the mix of a junction comes from an optimum of its program
 pub record IsMixOf (net : Network) (rates : Rates) (j : ℕ) (mix : Mix) : Type 0 where
   pub o : Optimum
-  pub optimal : maximised (program net (junction_at net j) rates.h) turn_limit ≡ Optimal o
+  pub optimal : maximised (program net (junction_at net j) rates.h) TURN_LIMIT ≡ Optimal o
   pub same : mix ≡ mix_of o
 
 mix_is : (net : Network) (rates : Rates) (j : ℕ) (mix : Mix) → mixed net rates j ≡ Reached mix → IsMixOf net rates j mix
 unfolding mixed
 mix_is net rates j mix e =
-    let outcome = maximised (program net (junction_at net j) rates.h) turn_limit in
+    let outcome = maximised (program net (junction_at net j) rates.h) TURN_LIMIT in
     then_reached (optimum_at (Place.Mix j) j outcome) _ mix e (λ o ho e1. (let s : mix_of o ≡ mix = same_reached (mix_of o) mix e1 in record { o = o; optimal = optimum_reached (Place.Mix j) j outcome o ho; same = sym s }))
 
 record AreMixes (net : Network) (rates : Rates) (list : List Mix) : Type 0 where
@@ -71,7 +72,7 @@ mixes_are net rates list e =
           mix_is net rates j (get_or list (j - 1) no_mix) (subst (λ (m : ℕ). mixed net rates m ≡ Reached (get_or list (j - 1) no_mix)) here (o.at (j - 1) 0 no_mix l)));
     }
 
-module _ (net : Network) (ok : IsNetwork net) (flows : Flows) (are : AreFlows net flows) (st : Standing) (n : ℕ) (above : st.slack.num ≡ pos (suc n)) (sound : IsSound net flows (length net.junctions) st)
+module _ (net : Network) (ok : IsNetwork net) (flows : Flows) (are : AreFlows net flows) (st : Score) (n : ℕ) (above : st.slack.num ≡ pos (suc n)) (sound : IsSound net flows (length net.junctions) st)
     (rates : Rates) (there : rates_at net flows st.slack ≡ Some rates) (list : List Mix) (mixed_list : mixes net rates ≡ Reached list) where
   abbrev hn : ℕ → ℕ
   hn k = unsigned_abs (int_entry rates.h k)
@@ -117,7 +118,7 @@ module _ (net : Network) (ok : IsNetwork net) (flows : Flows) (are : AreFlows ne
 
   solved_at : (j : ℕ) → (i : has (junction_numbers net) j ≡ true) → IsSolved net (junction_at net j) (int_entry rates.h) (all_mixes.at j i).o
   solved_at j i = let b = in_numbers (length net.junctions) j i in
-      solved_by net (junction_at net j) rates.h ok (good_at net net.junctions (j - 1) (omega (arith, b)) ok.stages) turn_limit (all_mixes.at j i).o (all_mixes.at j i).optimal
+      solved_by net (junction_at net j) rates.h ok (good_at net net.junctions (j - 1) (omega (arith, b)) ok.stages) TURN_LIMIT (all_mixes.at j i).o (all_mixes.at j i).optimal
 
   solved_mix : (j : ℕ) → has (junction_numbers net) j ≡ true → IsSolvedMix net (certificate_of rates list) (unsigned_abs rates.d) j
   solved_mix j i =

@@ -13,7 +13,7 @@ use Rattle.mp_simplex.specs.Outcome.{Optimal, maximised}
 use Rattle.mp_verdict.specs.Stated.{Reached}
 use Rattle.mp_verdict.specs.Rates.{Rates, rates_at}
 use Rattle.mp_verdict.specs.Program.{program}
-use Rattle.mp_verdict.specs.Game.{Standing, is_over, game}
+use Rattle.mp_verdict.specs.Game.{Score, is_over, game}
 use Rattle.mp_verdict.specs.Vector.{spread, link_values}
 use Rattle.mp_verdict.proofs.Plain.{values_of}
 use Rattle.mp_verdict.proofs.Signed.{ints-pos}
@@ -41,13 +41,13 @@ dot_ones [] (z ∷ zs) e = absurd (omega arith)
 dot_ones (k ∷ ks) [] e = absurd (omega arith)
 dot_ones (k ∷ ks) (z ∷ zs) e = let r = dot_ones ks zs (omega arith) in omega (arith, ints, r)
 
--- the values of a standing at the end of the game are not negative
-pub end_values : (net : Network) → IsNetwork net → (flows : Flows) → AreFlows net flows → (standing : Standing) → game net flows ≡ Reached (Some standing) → AllByRecursion (λ z. pos 0 ≤ℤ z) standing.values
-end_values net ok flows are standing e = let s : IsSound net flows (length net.junctions) standing = game_sound net ok flows are (Some standing) e in s.values
+-- the values of a score at the end of the game are not negative
+pub end_values : (net : Network) → IsNetwork net → (flows : Flows) → AreFlows net flows → (score : Score) → game net flows ≡ Reached (Some score) → AllByRecursion (λ z. pos 0 ≤ℤ z) score.values
+end_values net ok flows are score e = let s : IsSound net flows (length net.junctions) score = game_sound net ok flows are (Some score) e in s.values
 
 -- what values that are not negative bring to the links is one number of at least 0 per link
-pub brought_shape : (net : Network) → IsNetwork net → (standing : Standing) → AllByRecursion (λ z. pos 0 ≤ℤ z) standing.values → (u : List ℤ) → link_values net (spread net standing) ≡ Some u → (length u ≡ length net.links) × All (λ v. pos 0 ≤ℤ v) u
-brought_shape net ok standing sign u e = let b = brought_is net ok standing sign u e in (b.count, b.signs)
+pub brought_shape : (net : Network) → IsNetwork net → (score : Score) → AllByRecursion (λ z. pos 0 ≤ℤ z) score.values → (u : List ℤ) → link_values net (spread net score) ≡ Some u → (length u ≡ length net.links) × All (λ v. pos 0 ≤ℤ v) u
+brought_shape net ok score sign u e = let b = brought_is net ok score sign u e in (b.count, b.signs)
 
 module _ (net : Network) (ok : IsNetwork net) (j : ℕ) (inside : (1 ≤ j) × (j ≤ length net.junctions)) (rates : Rates) (limit : ℕ) (o : Optimum) (optimal : maximised (program net (junction_at net j) rates.h) limit ≡ Optimal o) where
   -- an optimum above the denominator of the rates has values that are not all 0

@@ -32,7 +32,7 @@ pub mod Holders
 pub mod NaturalRules
 pub mod CarriedRates
 pub mod Certified
-pub mod StandingLaw
+pub mod ScoreLaw
 pub mod RatesThere
 pub mod VerdictProof
 pub mod Handing

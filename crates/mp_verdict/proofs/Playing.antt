@@ -1,4 +1,4 @@
--- The movements of a junction alone keep the standing sound.
+-- The movements of a junction alone keep the score sound.
 use Rattle.std.proofs.Common.{◌≡◌, ◌==◌, ℕ, ◌+◌, ◌-◌, ◌*◌, ◌≤◌, ◌<◌, Bool, true, false, cond, List, [], ◌∷◌, length, map, sum_by, ℤ, pos, ◌-ℤ◌, ◌*ℤ◌, ◌≤ℤ◌, ◌<ℤ◌, unsigned_abs, Option, Some, None, arith, refl, sym, ◌∙◌, ap, subst, mul-le-mul}
 use Rattle.std.specs.List.{AllByRecursion}
 use Rattle.std.specs.declared.cmp.Ordering.{Ordering}
@@ -15,7 +15,7 @@ use Rattle.mp_laws.proofs.Sums.{sum_by-same, there}
 use Rattle.mp_laws.proofs.Distinct.{range_distinct}
 use Rattle.mp_num.specs.Checked.{within, compared}
 use Rattle.mp_num.specs.Fraction.{Fraction, IsLowest, lowest_terms}
-use Rattle.mp_num.specs.Passing.{run}
+use Rattle.mp_num.specs.Passing.{stepped}
 use Rattle.mp_num.proofs.CheckedLemmas.{within_some}
 use Rattle.mp_num.proofs.FracLemmas.{lowest_terms_of}
 use Rattle.mp_num.proofs.OutcomeLemmas.{option_map_some}
@@ -24,7 +24,7 @@ use Rattle.mp_flow.specs.Systems.{Flows, AreFlows}
 use Rattle.mp_verdict.specs.Worst.{rate_weight, unit_weight, IsSlackOf, IsWorst}
 use Rattle.mp_num.specs.Operations.{times, less, num}
 use Rattle.mp_verdict.specs.Rates.{period_unit, rate_need, unit_need}
-use Rattle.mp_verdict.specs.Game.{Standing, fraction_of, slack_alone, is_less, is_lower, alone, taken, tried}
+use Rattle.mp_verdict.specs.Game.{Score, fraction_of, slack_alone, is_less, is_lower, alone, taken, tried}
 use Rattle.mp_verdict.proofs.Plain.{CarriesAt, asked, unit_asked, values_of}
 use Rattle.mp_verdict.proofs.Signed.{mul_posℤ}
 use Rattle.mp_verdict.proofs.Falls.{good_at}
@@ -134,7 +134,7 @@ module _ (net : Network) (ok : IsNetwork net) (flows : Flows) (are : AreFlows ne
             (ap (λ n. a.num *ℤ pos (net.per * n)) units ∙ r.1 ∙ ap (λ n. (pos (Y * flow_of net k) -ℤ pos n) *ℤ a.den) (sym rates)),
       )
 
-  -- the standing that it makes
+  -- the score that it makes
   alone_worst : (n k : ℕ) (a : Fraction) → (1 ≤ n) × (n ≤ length net.junctions) → has (own net (junction_at net n)) k ≡ true → slack_alone net flows k ≡ Some a →
       IsLowest a.num a.den × IsWorst net (d_of flows) (f_of flows) (g_of flows) n (values_of (own net (junction_at net n)) (alone k (own net (junction_at net n)))) (flow_of net k) a.num (unsigned_abs a.den)
   alone_worst n k a l h e =
@@ -153,14 +153,14 @@ module _ (net : Network) (ok : IsNetwork net) (flows : Flows) (are : AreFlows ne
         },
       )
 
-  -- a standing with a slack that is not higher keeps what was carried
+  -- a score with a slack that is not higher keeps what was carried
   lower_from : (a b : Fraction) → IsLowest a.num a.den → IsLowest b.num b.den → (a.num *ℤ b.den) ≤ℤ (b.num *ℤ a.den) → (a.num *ℤ pos (unsigned_abs b.den)) ≤ℤ (b.num *ℤ pos (unsigned_abs a.den))
   lower_from a b la lb h =
       let ea : a.den ≡ pos (unsigned_abs a.den) = positive_is a.den la.positive in
       let eb : b.den ≡ pos (unsigned_abs b.den) = positive_is b.den lb.positive in
       subst (λ (t : ℤ). (a.num *ℤ t) ≤ℤ (b.num *ℤ pos (unsigned_abs a.den))) eb (subst (λ (t : ℤ). (a.num *ℤ b.den) ≤ℤ (b.num *ℤ t)) ea h)
 
-  chosen : (n k : ℕ) (a : Fraction) (old : Standing) → n < length net.junctions → has (own net (junction_at net (n + 1))) k ≡ true → slack_alone net flows k ≡ Some a → IsSound net flows n old →
+  chosen : (n k : ℕ) (a : Fraction) (old : Score) → n < length net.junctions → has (own net (junction_at net (n + 1))) k ≡ true → slack_alone net flows k ≡ Some a → IsSound net flows n old →
       (b : Bool) → (b ≡ true → (a.num *ℤ old.slack.den) <ℤ (old.slack.num *ℤ a.den)) →
       IsSoundAt net flows n (taken (record { slack = a; junction = n + 1; values = alone k (own net (junction_at net (n + 1))) }) old b)
   chosen n k a old l h e sound true lt =
@@ -176,8 +176,8 @@ module _ (net : Network) (ok : IsNetwork net) (flows : Flows) (are : AreFlows ne
       }
   chosen n k a old l h e sound false lt = sound
 
-  tried_sound : (n k : ℕ) (standing next : Option Standing) → n < length net.junctions → has (own net (junction_at net (n + 1))) k ≡ true → IsSoundAt net flows n standing →
-      tried net flows (n + 1) (own net (junction_at net (n + 1))) standing k ≡ Some next → IsSoundAt net flows n next
+  tried_sound : (n k : ℕ) (score next : Option Score) → n < length net.junctions → has (own net (junction_at net (n + 1))) k ≡ true → IsSoundAt net flows n score →
+      tried net flows (n + 1) (own net (junction_at net (n + 1))) score k ≡ Some next → IsSoundAt net flows n next
   unfolding tried
   tried_sound n k None next l h sound e =
       option_and_then_some _ (slack_alone net flows k) next e (λ a ha e'.
@@ -195,10 +195,10 @@ module _ (net : Network) (ok : IsNetwork net) (flows : Flows) (are : AreFlows ne
       option_map_some _ (is_lower a old.slack) next e' (λ b hb e''.
       subst (IsSoundAt net flows n) (sym e'') (chosen n k a old l h ha sound b (lower_is a old.slack b hb))))
 
-  pub run_sound : (n : ℕ) (ks : List ℕ) (standing next : Option Standing) → n < length net.junctions → AllByRecursion (λ k. has (own net (junction_at net (n + 1))) k ≡ true) ks → IsSoundAt net flows n standing →
-      run (tried net flows (n + 1) (own net (junction_at net (n + 1)))) standing ks ≡ Some next → IsSoundAt net flows n next
-  unfolding run
-  run_sound n [] standing next l h sound e = subst (IsSoundAt net flows n) (same_Some _ _ e) sound
-  run_sound n (k ∷ ks) standing next l h sound e =
-      option_and_then_some _ (tried net flows (n + 1) (own net (junction_at net (n + 1))) standing k) next e (λ mid hm e'.
-      run_sound n ks mid next l h.1 (tried_sound n k standing mid l h.0 sound hm) e')
+  pub run_sound : (n : ℕ) (ks : List ℕ) (score next : Option Score) → n < length net.junctions → AllByRecursion (λ k. has (own net (junction_at net (n + 1))) k ≡ true) ks → IsSoundAt net flows n score →
+      stepped (tried net flows (n + 1) (own net (junction_at net (n + 1)))) score ks ≡ Some next → IsSoundAt net flows n next
+  unfolding stepped
+  run_sound n [] score next l h sound e = subst (IsSoundAt net flows n) (same_Some _ _ e) sound
+  run_sound n (k ∷ ks) score next l h sound e =
+      option_and_then_some _ (tried net flows (n + 1) (own net (junction_at net (n + 1))) score k) next e (λ mid hm e'.
+      run_sound n ks mid next l h.1 (tried_sound n k score mid l h.0 sound hm) e')

@@ -11,7 +11,7 @@ use Rattle.mp_simplex.specs.Outcome.{Optimal, maximised}
 use Rattle.mp_verdict.specs.Stated.{Stated, Reached, PassesAt, LimitAt, then, at_place}
 use Rattle.mp_verdict.specs.Rates.{Rates, rates_at}
 use Rattle.mp_verdict.specs.Program.{program, optimum_at}
-use Rattle.mp_verdict.specs.Game.{Standing, is_over, slack_of, Turn, Carried, Lowered, spent, lowered, by_value, turn, after_turn, played}
+use Rattle.mp_verdict.specs.Game.{Score, is_over, slack_of, Turn, Carried, Lowered, spent, lowered, by_value, turn, after_turn, played}
 use Rattle.mp_verdict.specs.TurnLaws.{FallsLaw, RoundsLaw}
 use Rattle.mp_verdict.proofs.Plain.{values_of}
 use Rattle.mp_verdict.proofs.Duality.{full_stage}
@@ -29,12 +29,12 @@ spent_less : (j turns left : ℕ) → spent j turns ≡ Reached left → left < 
 spent_less j zero left e = absurd (cc)
 spent_less j (suc turns) left e = let s : turns ≡ left = same_reached turns left e in omega arith
 
-by_lowered : {P : Type 0} (over : Bool) (lower : Stated Turn) (left : ℕ) (next : Standing) → by_value over lower ≡ Reached (Lowered left next) → (over ≡ true → lower ≡ Reached (Lowered left next) → P) → P
+by_lowered : {P : Type 0} (over : Bool) (lower : Stated Turn) (left : ℕ) (next : Score) → by_value over lower ≡ Reached (Lowered left next) → (over ≡ true → lower ≡ Reached (Lowered left next) → P) → P
 by_lowered true lower left next e h = h refl e
 by_lowered false lower left next e h = absurd (cc)
 
 -- what a turn that lowers the slack came from
-pub record IsLowered (net : Network) (flows : Flows) (j turns : ℕ) (slack : Fraction) (left : ℕ) (next : Standing) : Type 0 where
+pub record IsLowered (net : Network) (flows : Flows) (j turns : ℕ) (slack : Fraction) (left : ℕ) (next : Score) : Type 0 where
   pub rates : Rates
   pub there : rates_at net flows slack ≡ Some rates
   pub o : Optimum
@@ -43,10 +43,10 @@ pub record IsLowered (net : Network) (flows : Flows) (j turns : ℕ) (slack : Fr
   pub less : left < turns
   pub slack_is : slack_of net flows (own net (junction_at net j)) o.primal o.primal_den ≡ Some next.slack
 
-same_turn : (left left' : ℕ) (next next' : Standing) → (let t : Stated Turn = Reached (Lowered left next) in t) ≡ Reached (Lowered left' next') → (left ≡ left') × (next ≡ next')
+same_turn : (left left' : ℕ) (next next' : Score) → (let t : Stated Turn = Reached (Lowered left next) in t) ≡ Reached (Lowered left' next') → (left ≡ left') × (next ≡ next')
 same_turn left left' next next' e = (cc, cc)
 
-pub turn_lowered : (net : Network) (flows : Flows) (j turns : ℕ) (slack : Fraction) (left : ℕ) (next : Standing) → turn net flows j turns slack ≡ Reached (Lowered left next) → IsLowered net flows j turns slack left next
+pub turn_lowered : (net : Network) (flows : Flows) (j turns : ℕ) (slack : Fraction) (left : ℕ) (next : Score) → turn net flows j turns slack ≡ Reached (Lowered left next) → IsLowered net flows j turns slack left next
 unfolding turn lowered
 turn_lowered net flows j turns slack left next e =
     let t : Turn = Lowered left next in
@@ -56,7 +56,7 @@ turn_lowered net flows j turns slack left next e =
     by_lowered over _ left next e3 (λ yes e4.
     then_reached (spent j (turns - o.pivots)) _ t e4 (λ left' hl e5.
     then_reached (at_place (Place.Game j) (slack_of net flows (own net (junction_at net j)) o.primal o.primal_den)) _ t e5 (λ a ha e6.
-    (let made : Standing = record { slack = a; junction = j; values = o.primal } in
+    (let made : Score = record { slack = a; junction = j; values = o.primal } in
     let s = same_turn left' left made next e6 in
     let fewer = spent_less j (turns - o.pivots) left' hl in
     let there = at_place_reached (Place.Game j) (slack_of net flows (own net (junction_at net j)) o.primal o.primal_den) a ha in
@@ -67,7 +67,7 @@ turn_lowered net flows j turns slack left next e =
       optimal = optimum_reached (Place.Game j) j (maximised (program net (junction_at net j) rates.h) turns) o ho;
       over = at_place_reached (Place.Game j) (is_over rates o) over hv ∙ ap Some yes;
       less = omega (arith, fewer, s.0);
-      slack_is = there ∙ ap (λ (st : Standing). Some st.slack) s.1;
+      slack_is = there ∙ ap (λ (st : Score). Some st.slack) s.1;
     })))))))
 
 pub falls_lower : FallsLaw
@@ -102,18 +102,18 @@ falls_lower net ok flows are j some most turns slack one left next e =
     (t.less, made.0.positive, lower)
 
 module _ (net : Network) (flows : Flows) (j : ℕ) where
-  same_play : (rounds turns : ℕ) (standing : Standing) (s : Stated Turn) → turn net flows j turns standing.slack ≡ s → turns < suc rounds →
-      ((left : ℕ) (next : Standing) → left < rounds → played net flows j rounds left next ≡ played net flows j (suc rounds) left next) →
-      then s (λ t. after_turn standing t (played net flows j rounds)) ≡ then s (λ t. after_turn standing t (played net flows j (suc rounds)))
-  same_play rounds turns standing (Reached Carried) e l more = refl
-  same_play rounds turns standing (Reached (Lowered left next)) e l more = let t = (turn_lowered net flows j turns standing.slack left next e).less in more left next (omega (arith, t, l))
-  same_play rounds turns standing (PassesAt place) e l more = refl
-  same_play rounds turns standing (LimitAt i) e l more = refl
+  same_play : (rounds turns : ℕ) (score : Score) (s : Stated Turn) → turn net flows j turns score.slack ≡ s → turns < suc rounds →
+      ((left : ℕ) (next : Score) → left < rounds → played net flows j rounds left next ≡ played net flows j (suc rounds) left next) →
+      then s (λ t. after_turn score t (played net flows j rounds)) ≡ then s (λ t. after_turn score t (played net flows j (suc rounds)))
+  same_play rounds turns score (Reached Carried) e l more = refl
+  same_play rounds turns score (Reached (Lowered left next)) e l more = let t = (turn_lowered net flows j turns score.slack left next e).less in more left next (omega (arith, t, l))
+  same_play rounds turns score (PassesAt place) e l more = refl
+  same_play rounds turns score (LimitAt i) e l more = refl
 
-  rounds_same : (rounds turns : ℕ) (standing : Standing) → turns < rounds → played net flows j rounds turns standing ≡ played net flows j (suc rounds) turns standing
+  rounds_same : (rounds turns : ℕ) (score : Score) → turns < rounds → played net flows j rounds turns score ≡ played net flows j (suc rounds) turns score
   unfolding played
-  rounds_same zero turns standing l = absurd (omega arith)
-  rounds_same (suc rounds) turns standing l = same_play rounds turns standing (turn net flows j turns standing.slack) refl l (rounds_same rounds)
+  rounds_same zero turns score l = absurd (omega arith)
+  rounds_same (suc rounds) turns score l = same_play rounds turns score (turn net flows j turns score.slack) refl l (rounds_same rounds)
 
 pub turns_first : RoundsLaw
-turns_first net flows j rounds turns standing l = rounds_same net flows j rounds turns standing l
+turns_first net flows j rounds turns score l = rounds_same net flows j rounds turns score l

@@ -1,4 +1,4 @@
--- The turns of a junction keep the standing sound, and leave one that the junction carries.
+-- The turns of a junction keep the score sound, and leave one that the junction carries.
 use Rattle.std.proofs.Common.{◌≡◌, ℕ, zero, suc, ◌+◌, ◌-◌, ◌*◌, ◌≤◌, ◌<◌, Bool, true, false, List, length, sum_by, ℤ, pos, ◌-ℤ◌, ◌*ℤ◌, ◌≤ℤ◌, ◌<ℤ◌, int_lt, unsigned_abs, Some, arith, refl, sym, ◌∙◌, ap, subst, mul-le-mul, mul-le-mul_right, ⊎_elim}
 use Rattle.std.specs.List.{AllByRecursion}
 use Rattle.std.proofs.lemmas.Int.{ints}
@@ -20,7 +20,7 @@ use Rattle.mp_num.specs.Operations.{times, less, num}
 use Rattle.mp_verdict.specs.Game.{summed_beside}
 use Rattle.mp_verdict.specs.Rates.{Rates, period_unit, rate_need, unit_need, rates_at}
 use Rattle.mp_verdict.specs.Program.{program, optimum_at}
-use Rattle.mp_verdict.specs.Game.{Standing, is_over, slack_of, Turn, Carried, Lowered, spent, lowered, by_value, turn, after_turn, played}
+use Rattle.mp_verdict.specs.Game.{Score, is_over, slack_of, Turn, Carried, Lowered, spent, lowered, by_value, turn, after_turn, played}
 use Rattle.mp_verdict.proofs.Plain.{CarriesAt, unit_asked, values_of}
 use Rattle.mp_verdict.proofs.Signed.{mul_posℤ, mul_le_nat}
 use Rattle.mp_verdict.proofs.Vector.{unit_some}
@@ -80,7 +80,7 @@ module _ (net : Network) (ok : IsNetwork net) (flows : Flows) (are : AreFlows ne
       (r.0, slack_is net (d_of flows) (f_of flows) (g_of flows) Z (unsigned_abs den) a r.0 r.1)
 
   -- a turn that lowers the slack
-  turned : (n : ℕ) (st : Standing) (rates : Rates) (o : Optimum) (a : Fraction) → n < length net.junctions → IsSound net flows n st → rates_at net flows st.slack ≡ Some rates → IsSolved net (junction_at net (n + 1)) (int_entry rates.h) o →
+  turned : (n : ℕ) (st : Score) (rates : Rates) (o : Optimum) (a : Fraction) → n < length net.junctions → IsSound net flows n st → rates_at net flows st.slack ≡ Some rates → IsSolved net (junction_at net (n + 1)) (int_entry rates.h) o →
       true ≡ int_lt (rates.d *ℤ o.value.den) o.value.num → slack_of net flows (own net (junction_at net (n + 1))) o.primal o.primal_den ≡ Some a → IsSound net flows n (record { slack = a; junction = n + 1; values = o.primal })
   turned n st rates o a l sound hr solved over ha =
       let j = junction_at net (n + 1) in
@@ -112,7 +112,7 @@ module _ (net : Network) (ok : IsNetwork net) (flows : Flows) (are : AreFlows ne
       }
 
   -- the junction carries the slack
-  finished : (n : ℕ) (st : Standing) (rates : Rates) (o : Optimum) → n < length net.junctions → IsSound net flows n st → rates_at net flows st.slack ≡ Some rates → IsSolved net (junction_at net (n + 1)) (int_entry rates.h) o →
+  finished : (n : ℕ) (st : Score) (rates : Rates) (o : Optimum) → n < length net.junctions → IsSound net flows n st → rates_at net flows st.slack ≡ Some rates → IsSolved net (junction_at net (n + 1)) (int_entry rates.h) o →
       false ≡ int_lt (rates.d *ℤ o.value.den) o.value.num → IsSound net flows (n + 1) st
   finished n st rates o l sound hr solved over =
       let j = junction_at net (n + 1) in
@@ -138,15 +138,15 @@ module _ (net : Network) (ok : IsNetwork net) (flows : Flows) (are : AreFlows ne
             ⊎_elim (λ (h : i < n + 1). sound.carries i some (omega arith)) (λ (h : n + 1 ≤ i). let e : n + 1 ≡ i = omega arith in subst P e here) (cases_lt i (n + 1)));
       }
 
-  abbrev TurnSound : ℕ → Standing → Turn → Type 0
+  abbrev TurnSound : ℕ → Score → Turn → Type 0
   TurnSound n st Carried = IsSound net flows (n + 1) st
   TurnSound n st (Lowered left next) = IsSound net flows n next
 
-  by_value_sound : (n : ℕ) (st : Standing) (over : Bool) (lower : Stated Turn) (t : Turn) → by_value over lower ≡ Reached t → (over ≡ true → lower ≡ Reached t → TurnSound n st t) → (over ≡ false → TurnSound n st Carried) → TurnSound n st t
+  by_value_sound : (n : ℕ) (st : Score) (over : Bool) (lower : Stated Turn) (t : Turn) → by_value over lower ≡ Reached t → (over ≡ true → lower ≡ Reached t → TurnSound n st t) → (over ≡ false → TurnSound n st Carried) → TurnSound n st t
   by_value_sound n st true lower t e h k = h refl e
   by_value_sound n st false lower t e h k = subst (TurnSound n st) (same_reached Carried t e) (k refl)
 
-  turn_sound : (n turns : ℕ) (st : Standing) (t : Turn) → n < length net.junctions → IsSound net flows n st → turn net flows (n + 1) turns st.slack ≡ Reached t → TurnSound n st t
+  turn_sound : (n turns : ℕ) (st : Score) (t : Turn) → n < length net.junctions → IsSound net flows n st → turn net flows (n + 1) turns st.slack ≡ Reached t → TurnSound n st t
   unfolding turn lowered
   turn_sound n turns st t l sound e =
       let j = n + 1 in
@@ -163,13 +163,13 @@ module _ (net : Network) (ok : IsNetwork net) (flows : Flows) (are : AreFlows ne
       (turned n st rates o a l sound rates_there solved (sym yes ∙ over_there) (at_place_reached (Place.Game j) (slack_of net flows (own net (junction_at net j)) o.primal o.primal_den) a ha)))))
       (λ no. finished n st rates o l sound rates_there solved (sym no ∙ over_there))))))
 
-  after_sound : (n rounds : ℕ) (st end : Standing) (t : Turn) → TurnSound n st t → ((turns : ℕ) (next : Standing) → IsSound net flows n next → played net flows (n + 1) rounds turns next ≡ Reached end → IsSound net flows (n + 1) end) →
+  after_sound : (n rounds : ℕ) (st end : Score) (t : Turn) → TurnSound n st t → ((turns : ℕ) (next : Score) → IsSound net flows n next → played net flows (n + 1) rounds turns next ≡ Reached end → IsSound net flows (n + 1) end) →
       after_turn st t (played net flows (n + 1) rounds) ≡ Reached end → IsSound net flows (n + 1) end
   after_sound n rounds st end Carried sound more e = subst (IsSound net flows (n + 1)) (same_reached st end e) sound
   after_sound n rounds st end (Lowered left next) sound more e = more left next sound e
 
   -- the play of a junction
-  pub played_sound : (n rounds turns : ℕ) (st end : Standing) → n < length net.junctions → IsSound net flows n st → played net flows (n + 1) rounds turns st ≡ Reached end → IsSound net flows (n + 1) end
+  pub played_sound : (n rounds turns : ℕ) (st end : Score) → n < length net.junctions → IsSound net flows n st → played net flows (n + 1) rounds turns st ≡ Reached end → IsSound net flows (n + 1) end
   unfolding played
   played_sound n zero turns st end l sound e = absurd (cc)
   played_sound n (suc rounds) turns st end l sound e =

@@ -4,7 +4,7 @@ use Rattle.std.specs.List.{AllByRecursion}
 use Rattle.std.proofs.lemmas.Int.{ints}
 use Rattle.std.proofs.lemmas.Option.{option_and_then_some, same_Some}
 use Rattle.std.proofs.lemmas.List.Sums.{sum_by-cons}
-use Rattle.mp_num.specs.Passing.{run}
+use Rattle.mp_num.specs.Passing.{stepped}
 use Rattle.mp_num.proofs.CheckedLemmas.{within_some}
 use Rattle.mp_num.specs.Operations.{times, plus, less, added, summed}
 
@@ -43,8 +43,8 @@ pub gives-same : (a : Option ℤ) (v w : ℤ) → Gives a v → v ≡ w → Give
 gives-same a v w g e = record { at = λ z h. g.at z h ∙ e }
 
 -- a sum of terms that are natural numbers
-sum_from : (term : ℕ → Option ℤ) (t : ℕ → ℕ) (ks : List ℕ) (s : ℤ) → AllByRecursion (λ k. Gives (term k) (pos (t k))) ks → Gives (run (added term) s ks) (s +ℤ pos (sum_by t ks))
-unfolding run
+sum_from : (term : ℕ → Option ℤ) (t : ℕ → ℕ) (ks : List ℕ) (s : ℤ) → AllByRecursion (λ k. Gives (term k) (pos (t k))) ks → Gives (stepped (added term) s ks) (s +ℤ pos (sum_by t ks))
+unfolding stepped
 sum_from term t [] s h = gives-same _ _ _ (gives-some s) (omega (arith, ints))
 sum_from term t (k ∷ ks) s h = record {
   at = λ z e.

@@ -15,7 +15,7 @@ use Rattle.mp_num.proofs.OutcomeLemmas.{option_map_some, each_some}
 use Rattle.mp_num.proofs.RowLemmas.{reduced_multiple}
 use Rattle.mp_flow.specs.Systems.{Worths, stated_worths, onward}
 use Rattle.mp_num.specs.Operations.{times, num}
-use Rattle.mp_verdict.specs.Game.{Standing}
+use Rattle.mp_verdict.specs.Game.{Score}
 use Rattle.mp_verdict.specs.Vector.{value_beside, spread, link_value, link_values, vector_entry, vector_by, vector_of}
 use Rattle.mp_verdict.specs.Worst.{naturals_in, IsWorth, IsDivided, against}
 use Rattle.mp_verdict.proofs.Plain.{values_of}
@@ -35,7 +35,7 @@ beside_is (m ∷ ms) (z ∷ zs) k h = go (m == k) (beside_is ms zs k h.1)
     go true e = abs_is z h.0
     go false e = e
 
-spread_is : (net : Network) (st : Standing) (k : ℕ) → AllByRecursion (λ z. pos 0 ≤ℤ z) st.values → has (movement_numbers net) k ≡ true → int_entry (spread net st) k ≡ pos (weights_of net st k)
+spread_is : (net : Network) (st : Score) (k : ℕ) → AllByRecursion (λ z. pos 0 ≤ℤ z) st.values → has (movement_numbers net) k ≡ true → int_entry (spread net st) k ≡ pos (weights_of net st k)
 unfolding spread
 spread_is net st k h i =
     let b = in_numbers (length net.movements) k i in
@@ -46,7 +46,7 @@ natural_factor : (K n : ℕ) (r : ℤ) → 1 ≤ K → pos n ≡ pos K *ℤ r �
 natural_factor K n (pos r) some e = omega (arith, ints, mul_posℤ K r, e)
 natural_factor K n (negsuc r) some e = absurd (omega (arith, ints, e, mul-le-mul some (let l : 1 ≤ suc r = omega arith in l)))
 
-module _ (net : Network) (ok : IsNetwork net) (st : Standing) (sign : AllByRecursion (λ z. pos 0 ≤ℤ z) st.values) where
+module _ (net : Network) (ok : IsNetwork net) (st : Score) (sign : AllByRecursion (λ z. pos 0 ≤ℤ z) st.values) where
   -- what the values bring to the links
   brought : (l : ℕ) → Gives (link_value net (spread net st) l) (pos (sum_by (λ k. share_of net k * weights_of net st k) (out_of net l)))
   unfolding link_value

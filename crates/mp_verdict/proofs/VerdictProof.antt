@@ -15,7 +15,7 @@ use Rattle.mp_flow.specs.declared.network.Place.{Place}
 use Rattle.mp_flow.specs.Systems.{Flows, AreFlows, stated_flows}
 use Rattle.mp_verdict.specs.Stated.{Reached, at_place}
 use Rattle.mp_verdict.specs.Rates.{rates_at}
-use Rattle.mp_verdict.specs.Game.{Standing, game}
+use Rattle.mp_verdict.specs.Game.{Score, game}
 use Rattle.mp_verdict.specs.Vector.{vector_of}
 use Rattle.mp_verdict.specs.Mixes.{mixes, certificate_of, certificate_at}
 use Rattle.mp_verdict.specs.Verdict.{Verdict, Admitted, Critical, Overloaded, Motionless, judged, verdict_after, verdict}
@@ -34,7 +34,7 @@ use Rattle.mp_verdict.proofs.VectorLaw.{shows, by_sign}
 use Rattle.mp_verdict.proofs.Carried.{none_overloads}
 use Rattle.mp_verdict.proofs.CarriedRates.{carries_rates}
 use Rattle.mp_verdict.proofs.Certified.{certifies, has_slack}
-use Rattle.mp_verdict.proofs.StandingLaw.{no_motion}
+use Rattle.mp_verdict.proofs.ScoreLaw.{no_motion}
 
 get_abs : (xs : List ℤ) (i : ℕ) → get_or (map unsigned_abs xs) i 0 ≡ unsigned_abs (get_or xs i (pos 0))
 get_abs [] i = refl
@@ -42,7 +42,7 @@ get_abs (x ∷ xs) zero = refl
 get_abs (x ∷ xs) (suc i) = get_abs xs i
 
 -- ---- the certificate
-certified_by : (net : Network) → IsNetwork net → (flows : Flows) → AreFlows net flows → (st : Standing) → IsSound net flows (length net.junctions) st → (n : ℕ) → st.slack.num ≡ pos (suc n) →
+certified_by : (net : Network) → IsNetwork net → (flows : Flows) → AreFlows net flows → (st : Score) → IsSound net flows (length net.junctions) st → (n : ℕ) → st.slack.num ≡ pos (suc n) →
     (cert : Cert) → certificate_at net flows st.slack ≡ Reached cert → Certifies net cert × IsSlack cert (suc n) (unsigned_abs st.slack.den)
 unfolding certificate_at
 certified_by net ok flows are st sound n above cert e =
@@ -59,14 +59,14 @@ natural_above P (pos (suc n)) h k = k n refl
 natural_above P (negsuc n) h k = absurd (omega (arith, ints))
 
 pub certified : CertifiedLaw
-certified net ok flows are standing e above cert ec =
-    let sound : IsSound net flows (length net.junctions) standing = game_sound net ok flows are (Some standing) e in
-    natural_above (λ z. Certifies net cert × IsSlack cert (unsigned_abs z) (unsigned_abs standing.slack.den)) standing.slack.num above
-    (λ n en. (let r = certified_by net ok flows are standing sound n en cert ec in
-    (r.0, subst (λ (z : ℤ). IsSlack cert (unsigned_abs z) (unsigned_abs standing.slack.den)) (sym en) r.1)))
+certified net ok flows are score e above cert ec =
+    let sound : IsSound net flows (length net.junctions) score = game_sound net ok flows are (Some score) e in
+    natural_above (λ z. Certifies net cert × IsSlack cert (unsigned_abs z) (unsigned_abs score.slack.den)) score.slack.num above
+    (λ n en. (let r = certified_by net ok flows are score sound n en cert ec in
+    (r.0, subst (λ (z : ℤ). IsSlack cert (unsigned_abs z) (unsigned_abs score.slack.den)) (sym en) r.1)))
 
 -- ---- the verdict
-module _ (net : Network) (ok : IsNetwork net) (flows : Flows) (are : AreFlows net flows) (st : Standing) (sound : IsSound net flows (length net.junctions) st) (p : List ℤ) (v : IsVectorOf net ok st sound.values p) where
+module _ (net : Network) (ok : IsNetwork net) (flows : Flows) (are : AreFlows net flows) (st : Score) (sound : IsSound net flows (length net.junctions) st) (p : List ℤ) (v : IsVectorOf net ok st sound.values p) where
   shown : ShowsSigned net (entry (map unsigned_abs p)) st.slack.num (unsigned_abs st.slack.den)
   shown =
       let r : IsDivided net (against net v.d (weights_of net st) v.x) (entry (map unsigned_abs p)) =
@@ -119,7 +119,7 @@ module _ (net : Network) (ok : IsNetwork net) (flows : Flows) (are : AreFlows ne
       )))
   judged_holds (negsuc n) e w h = subst (Holds net) (same_reached (Overloaded p) w h) (natural, sign_shown (negsuc n) e)
 
-after_holds : {X : Type 0} (net : Network) → IsNetwork net → (weighed : List ℤ → Option X) (flows : Flows) → AreFlows net flows → (standing : Option Standing) → game net flows ≡ Reached standing → (w : Verdict) → verdict_after net weighed flows standing ≡ Reached w → Holds net w
+after_holds : {X : Type 0} (net : Network) → IsNetwork net → (weighed : List ℤ → Option X) (flows : Flows) → AreFlows net flows → (score : Option Score) → game net flows ≡ Reached score → (w : Verdict) → verdict_after net weighed flows score ≡ Reached w → Holds net w
 unfolding verdict_after
 after_holds net ok weighed flows are None g w h = subst (Holds net) (same_reached Motionless w h) (no_motion net ok flows are g)
 after_holds net ok weighed flows are (Some st) g w h =
@@ -132,8 +132,8 @@ pub holds : (X : Type 0) → VerdictLaw X
 unfolding verdict
 holds X net ok weighed w h =
     then_reached (at_place Place.Flow (stated_flows net)) _ w h (λ flows hf e1.
-    then_reached (game net flows) _ w e1 (λ standing hg e2.
-    after_holds net ok weighed flows (flows_are net ok flows (at_place_reached Place.Flow (stated_flows net) flows hf)) standing hg w e2))
+    then_reached (game net flows) _ w e1 (λ score hg e2.
+    after_holds net ok weighed flows (flows_are net ok flows (at_place_reached Place.Flow (stated_flows net) flows hf)) score hg w e2))
 
 pub critical : (X : Type 0) → CriticalLaw X
 critical X net ok weighed vector h = (holds X net ok weighed (Critical vector) h).3

@@ -3,26 +3,23 @@ use Rattle.std.specs.Prelude.{◌==◌, ℕ, zero, suc, ◌+◌, ◌-◌, Bool, 
 use Rattle.std.specs.declared.cmp.Ordering.{Ordering}
 use Rattle.mp_num.specs.Checked.{within, compared}
 use Rattle.mp_num.specs.Fraction.{Fraction, lowest_terms}
-use Rattle.mp_num.specs.Passing.{run}
+use Rattle.mp_num.specs.Passing.{stepped}
 use Rattle.mp_model.specs.Network.{Network, junction_at, junction_numbers, flow_of, own}
 use Rattle.mp_flow.specs.declared.network.Place.{Place}
 use Rattle.mp_flow.specs.Systems.{Flows}
 use Rattle.mp_simplex.specs.declared.Optimum.{Optimum}
 use Rattle.mp_simplex.specs.Outcome.{maximised}
+use Rattle.mp_verdict.specs.declared.TheConstants.{TURN_LIMIT}
 use Rattle.mp_verdict.specs.Stated.{Stated, Reached, LimitAt, then, at_place, run_reached}
 use Rattle.mp_num.specs.Operations.{times, plus, less, num}
 use Rattle.mp_verdict.specs.Rates.{Rates, period_unit, rate_need, unit_need, rates_at}
 use Rattle.mp_verdict.specs.Program.{program, optimum_at}
 
--- The standing of the game is the slack so far, the worst junction, which it comes from, and a value for each movement of that junction.
-pub record Standing : Type 0 where
+-- The score of the game is the slack so far, the worst junction, which it comes from, and a value for each movement of that junction.
+pub record Score : Type 0 where
   pub slack : Fraction
   pub junction : ℕ
   pub values : List ℤ
-
--- This is the limit of turns at each junction: its pivots and its falls of the slack.
-abbrev pub turn_limit : ℕ
-turn_limit = 4096
 
 -- This is a fraction in lowest terms from its two numbers, where both are there.
 unfoldable pub fraction_of : Option ℤ → Option ℤ → Option Fraction
@@ -47,24 +44,24 @@ is_less Ordering.Greater = false
 unfoldable pub is_lower : Fraction → Fraction → Option Bool
 is_lower a b = option_map is_less (compared (within (a.num *ℤ b.den)) (within (b.num *ℤ a.den)))
 
--- The new standing is taken where its slack is lower.
-abbrev pub taken : Standing → Standing → Bool → Option Standing
+-- The new score is taken where its slack is lower.
+abbrev pub taken : Score → Score → Bool → Option Score
 taken new old true = Some new
 taken new old false = Some old
 
--- A new standing is taken where there is none yet, or where its slack is lower.
-abbrev pub lower_of : Standing → Option Standing → Option (Option Standing)
+-- A new score is taken where there is none yet, or where its slack is lower.
+abbrev pub lower_of : Score → Option Score → Option (Option Score)
 lower_of new None = Some (Some new)
 lower_of new (Some old) = option_map (taken new old) (is_lower new.slack old.slack)
 
--- This is the standing after movement k of junction j, of which ks are the movements, was tried alone.
-unfoldable pub tried : Network → Flows → ℕ → List ℕ → Option Standing → ℕ → Option (Option Standing)
-tried net flows j ks standing k =
-    option_and_then (λ slack. lower_of (record { slack = slack; junction = j; values = alone k ks }) standing) (slack_alone net flows k)
+-- This is the score after movement k of junction j, of which ks are the movements, was tried alone.
+unfoldable pub tried : Network → Flows → ℕ → List ℕ → Option Score → ℕ → Option (Option Score)
+tried net flows j ks score k =
+    option_and_then (λ slack. lower_of (record { slack = slack; junction = j; values = alone k ks }) score) (slack_alone net flows k)
 
--- This is the standing after each movement of junction j was tried alone.
-unfoldable pub all_tried : Network → Flows → ℕ → Option Standing → Option (Option Standing)
-all_tried net flows j standing = (let ks = own net (junction_at net j) in run (tried net flows j ks) standing ks)
+-- This is the score after each movement of junction j was tried alone.
+unfoldable pub all_tried : Network → Flows → ℕ → Option Score → Option (Option Score)
+all_tried net flows j score = (let ks = own net (junction_at net j) in stepped (tried net flows j ks) score ks)
 
 -- ---- then the stages of a junction together
 -- The value of a program is above the denominator of the rates.
@@ -87,7 +84,7 @@ slack_of net flows ks values den =
 -- A turn ends with the junction carrying the slack, or with a lower slack and so many turns left.
 pub data Turn : Type 0 where
   Carried : Turn
-  Lowered : ℕ → Standing → Turn
+  Lowered : ℕ → Score → Turn
 
 -- One of the turns that are left is spent; where none is left, junction j has come to the limit.
 abbrev pub spent : ℕ → ℕ → Stated ℕ
@@ -114,26 +111,26 @@ turn net flows j turns slack =
     then (at_place (Place.Game j) (is_over rates o)) (λ over.
     by_value over (lowered net flows j (turns - o.pivots) o))))
 
--- After a turn the play of a junction ends with its standing, or goes on.
-abbrev pub after_turn : Standing → Turn → (ℕ → Standing → Stated Standing) → Stated Standing
-after_turn standing Carried go = Reached standing
-after_turn standing (Lowered left next) go = go left next
+-- After a turn the play of a junction ends with its score, or goes on.
+abbrev pub after_turn : Score → Turn → (ℕ → Score → Stated Score) → Stated Score
+after_turn score Carried go = Reached score
+after_turn score (Lowered left next) go = go left next
 
 -- This is the play of junction j with so many turns left, within so many rounds; each round spends a turn, so that the turns end first.
-unfoldable pub played : Network → Flows → ℕ → ℕ → ℕ → Standing → Stated Standing
-played net flows j zero turns standing = LimitAt j
-played net flows j (suc rounds) turns standing =
-    then (turn net flows j turns standing.slack) (λ t. after_turn standing t (played net flows j rounds))
+unfoldable pub played : Network → Flows → ℕ → ℕ → ℕ → Score → Stated Score
+played net flows j zero turns score = LimitAt j
+played net flows j (suc rounds) turns score =
+    then (turn net flows j turns score.slack) (λ t. after_turn score t (played net flows j rounds))
 
--- The play of a junction needs a standing; there is none as long as no junction has had a movement.
-abbrev pub played_from : Network → Flows → ℕ → Option Standing → Stated (Option Standing)
+-- The play of a junction needs a score; there is none as long as no junction has had a movement.
+abbrev pub played_from : Network → Flows → ℕ → Option Score → Stated (Option Score)
 played_from net flows j None = Reached None
-played_from net flows j (Some standing) = then (played net flows j (turn_limit + 1) turn_limit standing) (λ next. Reached (Some next))
+played_from net flows j (Some score) = then (played net flows j (TURN_LIMIT + 1) TURN_LIMIT score) (λ next. Reached (Some next))
 
--- This is the standing after junction j: its movements are tried alone, and then its stages together.
-unfoldable pub after_junction : Network → Flows → Option Standing → ℕ → Stated (Option Standing)
-after_junction net flows standing j = then (at_place (Place.Game j) (all_tried net flows j standing)) (λ next. played_from net flows j next)
+-- This is the score after junction j: its movements are tried alone, and then its stages together.
+unfoldable pub after_junction : Network → Flows → Option Score → ℕ → Stated (Option Score)
+after_junction net flows score j = then (at_place (Place.Game j) (all_tried net flows j score)) (λ next. played_from net flows j next)
 
--- This is the standing at the end of the game, after all junctions in order.
-unfoldable pub game : Network → Flows → Stated (Option Standing)
+-- This is the score at the end of the game, after all junctions in order.
+unfoldable pub game : Network → Flows → Stated (Option Score)
 game net flows = run_reached (after_junction net flows) None (junction_numbers net)

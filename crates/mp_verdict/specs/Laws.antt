@@ -13,7 +13,7 @@ use Rattle.mp_simplex.specs.Outcome.{Ray, maximised}
 use Rattle.mp_verdict.specs.Stated.{Reached, run_reached}
 use Rattle.mp_verdict.specs.Rates.{Rates, rates_at}
 use Rattle.mp_verdict.specs.Program.{program}
-use Rattle.mp_verdict.specs.Game.{Standing, after_junction, game}
+use Rattle.mp_verdict.specs.Game.{Score, after_junction, game}
 use Rattle.mp_verdict.specs.Mixes.{certificate_at}
 use Rattle.mp_verdict.specs.Verdict.{Verdict, Admitted, Critical, Overloaded, Motionless, verdict}
 use Rattle.mp_verdict.specs.Worst.{naturals_in, IsWorst}
@@ -34,34 +34,34 @@ pub record CarriesSlack (net : Network) (flows : Flows) (slack : Fraction) (j : 
   pub mass : int_sum_by (λ part. part) mix.parts ≤ℤ (mix.whole *ℤ ((pos (net.shares * net.per) *ℤ flows.d) *ℤ slack.den))
   pub serve : AllByRecursion (λ k. (mix.whole *ℤ exact_need net flows slack k) ≤ℤ (pos (flow_of net k) *ℤ parts_with j.stages mix.parts k)) (own net j)
 
--- A standing stands after the first n junctions where its slack is in lowest terms and is that of a worst junction, its values are at least 0, and each of these junctions carries the slack.
-pub record StandsAfter (net : Network) (flows : Flows) (n : ℕ) (standing : Standing) : Type 0 where
-  pub lowest : IsLowest standing.slack.num standing.slack.den
-  pub worst : (Z : ℕ → ℕ) × (z : ℕ) × IsWorst net (unsigned_abs flows.d) (naturals_in flows.rate) (naturals_in flows.unit) standing.junction Z z standing.slack.num (unsigned_abs standing.slack.den)
-  pub values : AllByRecursion (λ z. pos 0 ≤ℤ z) standing.values
-  pub carries : (i : ℕ) → 1 ≤ i → i ≤ n → CarriesSlack net flows standing.slack (junction_at net i)
+-- A score stands after the first n junctions where its slack is in lowest terms and is that of a worst junction, its values are at least 0, and each of these junctions carries the slack.
+pub record StandsAfter (net : Network) (flows : Flows) (n : ℕ) (score : Score) : Type 0 where
+  pub lowest : IsLowest score.slack.num score.slack.den
+  pub worst : (Z : ℕ → ℕ) × (z : ℕ) × IsWorst net (unsigned_abs flows.d) (naturals_in flows.rate) (naturals_in flows.unit) score.junction Z z score.slack.num (unsigned_abs score.slack.den)
+  pub values : AllByRecursion (λ z. pos 0 ≤ℤ z) score.values
+  pub carries : (i : ℕ) → 1 ≤ i → i ≤ n → CarriesSlack net flows score.slack (junction_at net i)
 
--- Earlier junctions stay satisfied: the standing after the first n junctions is one whose slack all of them carry.
+-- Earlier junctions stay satisfied: the score after the first n junctions is one whose slack all of them carry.
 abbrev pub SatisfiedLaw : Type 0
-SatisfiedLaw = (net : Network) → IsNetwork net → (flows : Flows) → AreFlows net flows → (n : ℕ) → n ≤ length net.junctions → (standing : Standing) →
-    run_reached (after_junction net flows) None (numbers_to n) ≡ Reached (Some standing) → StandsAfter net flows n standing
+SatisfiedLaw = (net : Network) → IsNetwork net → (flows : Flows) → AreFlows net flows → (n : ℕ) → n ≤ length net.junctions → (score : Score) →
+    run_reached (after_junction net flows) None (numbers_to n) ≡ Reached (Some score) → StandsAfter net flows n score
 
 -- No program of a junction grows without end.
 abbrev pub BoundedLaw : Type 0
 BoundedLaw = (net : Network) → IsNetwork net → (j : ℕ) → 1 ≤ j → j ≤ length net.junctions → (h : List ℤ) (limit : ℕ) (ray : List ℤ) → ¬ (maximised (program net (junction_at net j) h) limit ≡ Ray ray)
 
--- Only a network without movements ends its game without a standing.
+-- Only a network without movements ends its game without a score.
 abbrev pub MotionLaw : Type 0
 MotionLaw = (net : Network) → IsNetwork net → (flows : Flows) → AreFlows net flows → game net flows ≡ Reached None → length net.movements ≡ 0
 
 -- In the rates at the slack of the game's end nothing exceeds 128 bits.
 abbrev pub RatesLaw : Type 0
-RatesLaw = (net : Network) (flows : Flows) (standing : Standing) → game net flows ≡ Reached (Some standing) → (rates : Rates) × (rates_at net flows standing.slack ≡ Some rates)
+RatesLaw = (net : Network) (flows : Flows) (score : Score) → game net flows ≡ Reached (Some score) → (rates : Rates) × (rates_at net flows score.slack ≡ Some rates)
 
 -- The certificate at a slack above 0 of the game's end certifies the network, and has this slack.
 abbrev pub CertifiedLaw : Type 0
-CertifiedLaw = (net : Network) → IsNetwork net → (flows : Flows) → AreFlows net flows → (standing : Standing) → game net flows ≡ Reached (Some standing) → pos 1 ≤ℤ standing.slack.num →
-    (cert : Cert) → certificate_at net flows standing.slack ≡ Reached cert → Certifies net cert × IsSlack cert (unsigned_abs standing.slack.num) (unsigned_abs standing.slack.den)
+CertifiedLaw = (net : Network) → IsNetwork net → (flows : Flows) → AreFlows net flows → (score : Score) → game net flows ≡ Reached (Some score) → pos 1 ≤ℤ score.slack.num →
+    (cert : Cert) → certificate_at net flows score.slack ≡ Reached cert → Certifies net cert × IsSlack cert (unsigned_abs score.slack.num) (unsigned_abs score.slack.den)
 
 -- ---- the verdict
 -- A network is admitted with a certificate, a vector and a slack where the certificate certifies it, the slack is that of the certificate and above 0, the vector shows it, and it is the greatest.

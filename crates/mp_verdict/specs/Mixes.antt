@@ -10,7 +10,7 @@ use Rattle.mp_simplex.specs.Outcome.{maximised}
 use Rattle.mp_verdict.specs.Stated.{Stated, Reached, then, at_place, each_reached}
 use Rattle.mp_verdict.specs.Rates.{Rates, rates_at}
 use Rattle.mp_verdict.specs.Program.{program, optimum_at}
-use Rattle.mp_verdict.specs.Game.{turn_limit}
+use Rattle.mp_verdict.specs.declared.TheConstants.{TURN_LIMIT}
 
 -- This is the mix of an optimum: its dual, with the denominator as the whole.
 abbrev pub mix_of : Optimum → Mix
@@ -18,7 +18,7 @@ mix_of o = record { whole = o.dual_den; parts = o.dual }
 
 -- This is the mix of junction j at some rates.
 unfoldable pub mixed : Network → Rates → ℕ → Stated Mix
-mixed net rates j = then (optimum_at (Place.Mix j) j (maximised (program net (junction_at net j) rates.h) turn_limit)) (λ o. Reached (mix_of o))
+mixed net rates j = then (optimum_at (Place.Mix j) j (maximised (program net (junction_at net j) rates.h) TURN_LIMIT)) (λ o. Reached (mix_of o))
 
 -- These are the mixes of all junctions in order.
 unfoldable pub mixes : Network → Rates → Stated (List Mix)

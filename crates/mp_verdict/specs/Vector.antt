@@ -6,7 +6,7 @@ use Rattle.mp_model.specs.Network.{Network, link_numbers, movement_numbers, junc
 use Rattle.mp_model.specs.Certificate.{int_entry}
 use Rattle.mp_flow.specs.Systems.{Worths, stated_worths, onward}
 use Rattle.mp_num.specs.Operations.{times, plus, num, summed}
-use Rattle.mp_verdict.specs.Game.{Standing}
+use Rattle.mp_verdict.specs.Game.{Score}
 
 -- This is the value beside movement k in two lists, and 0 where the movement is not there.
 abbrev pub value_beside : List ℕ → List ℤ → ℕ → ℤ
@@ -14,9 +14,9 @@ value_beside [] zs k = pos 0
 value_beside (m ∷ ms) [] k = pos 0
 value_beside (m ∷ ms) (z ∷ zs) k = cond (m == k) z (value_beside ms zs k)
 
--- These are the values of a standing over all movements, 0 outside the worst junction.
-unfoldable pub spread : Network → Standing → List ℤ
-spread net standing = map (value_beside (own net (junction_at net standing.junction)) standing.values) (movement_numbers net)
+-- These are the values of a score over all movements, 0 outside the worst junction.
+unfoldable pub spread : Network → Score → List ℤ
+spread net score = map (value_beside (own net (junction_at net score.junction)) score.values) (movement_numbers net)
 
 -- This is what the values bring to link l: the sum over the movements out of it of the share times the value.
 unfoldable pub link_value : Network → List ℤ → ℕ → Option ℤ
@@ -34,8 +34,8 @@ vector_entry net values worths k = plus (times (Some (int_entry values k)) (Some
 unfoldable pub vector_by : Network → List ℤ → Worths → Option (List ℤ)
 vector_by net values worths = option_map reduced (each (vector_entry net values worths) (movement_numbers net))
 
--- This is the vector of a standing: its values bring something to the links, from which come the worths.
-unfoldable pub vector_of : Network → Standing → Option (List ℤ)
-vector_of net standing =
-    (let values = spread net standing in
+-- This is the vector of a score: its values bring something to the links, from which come the worths.
+unfoldable pub vector_of : Network → Score → Option (List ℤ)
+vector_of net score =
+    (let values = spread net score in
     option_and_then (λ u. option_and_then (λ worths. vector_by net values worths) (stated_worths net u)) (link_values net values))

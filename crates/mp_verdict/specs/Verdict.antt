@@ -6,7 +6,7 @@ use Rattle.mp_model.specs.Certificate.{Cert}
 use Rattle.mp_flow.specs.declared.network.Place.{Place}
 use Rattle.mp_flow.specs.Systems.{Flows, stated_flows}
 use Rattle.mp_verdict.specs.Stated.{Stated, Reached, then, at_place}
-use Rattle.mp_verdict.specs.Game.{Standing, game}
+use Rattle.mp_verdict.specs.Game.{Score, game}
 use Rattle.mp_verdict.specs.Vector.{vector_of}
 use Rattle.mp_verdict.specs.Mixes.{certificate_at}
 
@@ -24,13 +24,13 @@ judged net flows slack vector (pos (suc n)) = then (certificate_at net flows sla
 judged net flows slack vector (negsuc n) = Reached (Overloaded vector)
 
 -- This is the verdict after the game: the vector is found, its two sums are formed for their overflow alone, and the slack's sign decides.
-unfoldable pub verdict_after : {X : Type 0} → Network → (List ℤ → Option X) → Flows → Option Standing → Stated Verdict
+unfoldable pub verdict_after : {X : Type 0} → Network → (List ℤ → Option X) → Flows → Option Score → Stated Verdict
 verdict_after net weighed flows None = Reached Motionless
-verdict_after net weighed flows (Some standing) =
-    then (at_place Place.Adjoint (vector_of net standing)) (λ vector.
+verdict_after net weighed flows (Some score) =
+    then (at_place Place.Adjoint (vector_of net score)) (λ vector.
     then (at_place Place.Vector (weighed vector)) (λ sums.
-    judged net flows standing.slack vector standing.slack.num))
+    judged net flows score.slack vector score.slack.num))
 
 -- This is the verdict on a network: the flows of its links are found and the game is played; the two sums of a vector are those of a calculation that is given.
 unfoldable pub verdict : {X : Type 0} → Network → (List ℤ → Option X) → Stated Verdict
-verdict net weighed = then (at_place Place.Flow (stated_flows net)) (λ flows. then (game net flows) (λ standing. verdict_after net weighed flows standing))
+verdict net weighed = then (at_place Place.Flow (stated_flows net)) (λ flows. then (game net flows) (λ score. verdict_after net weighed flows score))

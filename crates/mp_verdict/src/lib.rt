@@ -6,6 +6,10 @@ ghost use Rattle.mp_verdict.specs.TurnLaws.{FallsLaw, RoundsLaw};
 ghost use Rattle.mp_verdict.specs.VectorLaws.{FactsLaw, SignLaw, VectorLaw};
 ghost use Rattle.mp_verdict.specs.WorkedVerdicts.{AreWorkedVerdicts};
 
+/// How many turns each junction has in the game, its pivots and its falls of the slack, and how many pivots the
+/// program of its mix.
+pub const TURN_LIMIT: u32 = 4_096;
+
 /// The five facts of the vector that shows a slack.
 pub fn facts_law()
     ensures { FactsLaw }
@@ -41,7 +45,7 @@ pub fn satisfied_law()
     ensures { SatisfiedLaw }
 {}
 
-/// Only a network without movements ends its game without a standing.
+/// Only a network without movements ends its game without a score.
 pub fn motion_law()
     ensures { MotionLaw }
 {}

@@ -1,7 +1,7 @@
 use Rattle.std.proofs.Common.{◌∙◌, ap, sym, drop}
 use Rattle.mp_simplex.specs.declared.Lp.{Lp}
 use Rattle.mp_simplex.specs.Outcome.{maximised}
-use Rattle.mp_verdict.proofs.StandingLaw.{never_endless}
+use Rattle.mp_verdict.proofs.ScoreLaw.{never_endless}
 use Rattle.mp_admit.proofs.junction.optimum_at.Goals as goal
 
 pub unreachable-requires : goal.unreachable-requires

@@ -3,7 +3,7 @@ use Rattle.std.specs.declared.option.Option.{Option}
 use Rattle.mp_model.specs.Network.{Network}
 use Rattle.mp_press.specs.Queues.{naturals}
 use Rattle.mp_cert.specs.Views.{cert_of}
-use Rattle.mp_drift.specs.Bounded.{excess, denominator}
+use Rattle.mp_num.specs.Fraction.{numerator, denominator}
 use Rattle.mp_run.specs.Auditing.{AuditsAs}
 use Rattle.mp_run.specs.declared.auditing.AuditEnd.{AuditEnd}
 use Rattle.mp_cli.proofs.SessionLemmas.{stood_of, opens_with}
@@ -20,26 +20,26 @@ pub returns-in-Differs-clause-so : goal.returns-in-Differs-clause-so
 returns-in-Differs-clause-so g c = λ files.
     let s = c.in-Ok.session in
     let stood = stood_of c.args.net.now (cert_of c.args.cert.now) s c.state.ensures.bounded c.in-Ok.ensures.net c.in-Ok.ensures.checked c.in-Ok.ensures.certifies c.in-Ok.ensures.slack c.in-Ok.ensures.found in
-    let ends = ends_so s.net c.args.net.now (excess s.slack) (denominator s.slack) (naturals s.bounds) c.audit.result _ (g.In.Source.left c.args.input.now) (g.In.Source.left c.audit.new.input) c.in-Ok.ensures.net c.in-Differs.is c.audit.ensures.ends in
-    inr (opens_with c.args.net.now (cert_of c.args.cert.now) (excess s.slack) (denominator s.slack) (naturals s.bounds) stood _ (ends, refl))
+    let ends = ends_so s.net c.args.net.now (numerator s.slack) (denominator s.slack) (naturals s.bounds) c.audit.result _ (g.In.Source.left c.args.input.now) (g.In.Source.left c.audit.new.input) c.in-Ok.ensures.net c.in-Differs.is c.audit.ensures.ends in
+    inr (opens_with c.args.net.now (cert_of c.args.cert.now) (numerator s.slack) (denominator s.slack) (naturals s.bounds) stood _ (ends, refl))
 
 pub returns-in-Read-clause-so : goal.returns-in-Read-clause-so
 returns-in-Read-clause-so g c = λ files.
     let s = c.in-Ok.session in
     let stood = stood_of c.args.net.now (cert_of c.args.cert.now) s c.state.ensures.bounded c.in-Ok.ensures.net c.in-Ok.ensures.checked c.in-Ok.ensures.certifies c.in-Ok.ensures.slack c.in-Ok.ensures.found in
-    let ends = ends_so s.net c.args.net.now (excess s.slack) (denominator s.slack) (naturals s.bounds) c.audit.result _ (g.In.Source.left c.args.input.now) (g.In.Source.left c.audit.new.input) c.in-Ok.ensures.net c.in-Read.is c.audit.ensures.ends in
-    inr (opens_with c.args.net.now (cert_of c.args.cert.now) (excess s.slack) (denominator s.slack) (naturals s.bounds) stood _ (ends, refl))
+    let ends = ends_so s.net c.args.net.now (numerator s.slack) (denominator s.slack) (naturals s.bounds) c.audit.result _ (g.In.Source.left c.args.input.now) (g.In.Source.left c.audit.new.input) c.in-Ok.ensures.net c.in-Read.is c.audit.ensures.ends in
+    inr (opens_with c.args.net.now (cert_of c.args.cert.now) (numerator s.slack) (denominator s.slack) (naturals s.bounds) stood _ (ends, refl))
 
 pub returns-in-Ok-put_whole-clause-so : goal.returns-in-Ok-put_whole-clause-so
 returns-in-Ok-put_whole-clause-so g c = λ files.
     let s = c.in-Ok.session in
     let stood = stood_of c.args.net.now (cert_of c.args.cert.now) s c.state.ensures.bounded c.in-Ok.ensures.net c.in-Ok.ensures.checked c.in-Ok.ensures.certifies c.in-Ok.ensures.slack c.in-Ok.ensures.found in
-    let ends = ends_so s.net c.args.net.now (excess s.slack) (denominator s.slack) (naturals s.bounds) c.audit.result _ (g.In.Source.left c.args.input.now) (g.In.Source.left c.audit.new.input) c.in-Ok.ensures.net c.in-Done.is c.audit.ensures.ends in
-    inr (opens_with c.args.net.now (cert_of c.args.cert.now) (excess s.slack) (denominator s.slack) (naturals s.bounds) stood _ (record { periods = c.in-Done.periods; whole = ends; written = c.in-Ok-put_whole.ensures.bytes }))
+    let ends = ends_so s.net c.args.net.now (numerator s.slack) (denominator s.slack) (naturals s.bounds) c.audit.result _ (g.In.Source.left c.args.input.now) (g.In.Source.left c.audit.new.input) c.in-Ok.ensures.net c.in-Done.is c.audit.ensures.ends in
+    inr (opens_with c.args.net.now (cert_of c.args.cert.now) (numerator s.slack) (denominator s.slack) (naturals s.bounds) stood _ (record { periods = c.in-Done.periods; whole = ends; written = c.in-Ok-put_whole.ensures.bytes }))
 
 pub returns-clause-so : goal.returns-clause-so
 returns-clause-so g c = λ files.
     let s = c.in-Ok.session in
     let stood = stood_of c.args.net.now (cert_of c.args.cert.now) s c.state.ensures.bounded c.in-Ok.ensures.net c.in-Ok.ensures.checked c.in-Ok.ensures.certifies c.in-Ok.ensures.slack c.in-Ok.ensures.found in
-    let ends = ends_so s.net c.args.net.now (excess s.slack) (denominator s.slack) (naturals s.bounds) c.audit.result _ (g.In.Source.left c.args.input.now) (g.In.Source.left c.audit.new.input) c.in-Ok.ensures.net c.in-Done.is c.audit.ensures.ends in
-    inr (opens_with c.args.net.now (cert_of c.args.cert.now) (excess s.slack) (denominator s.slack) (naturals s.bounds) stood _ (record { periods = c.in-Done.periods; whole = ends; written = c.in-Err-put_whole.ensures.bytes }))
+    let ends = ends_so s.net c.args.net.now (numerator s.slack) (denominator s.slack) (naturals s.bounds) c.audit.result _ (g.In.Source.left c.args.input.now) (g.In.Source.left c.audit.new.input) c.in-Ok.ensures.net c.in-Done.is c.audit.ensures.ends in
+    inr (opens_with c.args.net.now (cert_of c.args.cert.now) (numerator s.slack) (denominator s.slack) (naturals s.bounds) stood _ (record { periods = c.in-Done.periods; whole = ends; written = c.in-Err-put_whole.ensures.bytes }))

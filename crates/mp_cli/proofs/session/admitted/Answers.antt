@@ -1,5 +1,5 @@
 use Rattle.mp_laws.proofs.Tied.{overload}
-use Rattle.mp_cli.specs.Verdicts.{numbers}
+use Rattle.mp_press.specs.Queues.{naturals}
 use Rattle.mp_cli.proofs.session.admitted.Goals as goal
 
 pub returns-in-Ok-Critical-clause-refused : goal.returns-in-Ok-Critical-clause-refused
@@ -13,4 +13,4 @@ returns-in-Ok-Overloaded-clause-refused c =
     let reached = rw c.in-Ok-Overloaded.field-0-is at c.in-Ok-Overloaded.ensures.calculation in
     let holds = rw c.in-Ok-Overloaded.field-0-is at c.in-Ok-Overloaded.ensures.holds in
     let shows = holds.1 in
-    record { reached = reached; shows = shows; none = overload c.args.net.now c.shares.ensures.acceptable.network (numbers c.in-Ok-Overloaded.against.p, shows) }
+    record { reached = reached; shows = shows; none = overload c.args.net.now c.shares.ensures.acceptable.network (naturals c.in-Ok-Overloaded.against.p, shows) }

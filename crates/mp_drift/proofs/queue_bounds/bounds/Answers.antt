@@ -1,6 +1,6 @@
 use Rattle.std.proofs.Common.{◌^◌, ℤ, pos, ◌≤ℤ◌, List, sym, ◌∙◌, subst}
 use Rattle.std.specs.List.{All}
-use Rattle.mp_drift.specs.Bounded.{excess, denominator}
+use Rattle.mp_num.specs.Fraction.{numerator, denominator}
 use Rattle.mp_drift.proofs.Finding.{listed, room_there, all_have_room, root_few}
 use Rattle.mp_drift.proofs.queue_bounds.bounds.Goals as goal
 
@@ -10,7 +10,7 @@ bound_list-requires-clause-root c = root_few c.isqrt.result c.in-Some.found.vmax
 pub returns-then-not-has_room-clause-calculation : goal.returns-then-not-has_room-clause-calculation
 returns-then-not-has_room-clause-calculation c =
     let found = c.in-Some.ensures.found in
-    let l = listed c.args.net.now (excess c.args.slack.now) (denominator c.args.slack.now) c.in-Some.found.vmax c.isqrt.result c.in-Ok.bound.items c.in-Ok.ensures found.vmax_is c.isqrt.ensures.square_le c.isqrt.ensures.next_square_gt in
+    let l = listed c.args.net.now (numerator c.args.slack.now) (denominator c.args.slack.now) c.in-Some.found.vmax c.isqrt.result c.in-Ok.bound.items c.in-Ok.ensures found.vmax_is c.isqrt.ensures.square_le c.isqrt.ensures.next_square_gt in
     record {
       found = found.stated;
       bounds = l.bounds;
@@ -21,7 +21,7 @@ returns-then-not-has_room-clause-calculation c =
 pub returns-clause-bounds : goal.returns-clause-bounds
 returns-clause-bounds c =
     let found = c.in-Some.ensures.found in
-    let l = listed c.args.net.now (excess c.args.slack.now) (denominator c.args.slack.now) c.in-Some.found.vmax c.isqrt.result c.in-Ok.bound.items c.in-Ok.ensures found.vmax_is c.isqrt.ensures.square_le c.isqrt.ensures.next_square_gt in
+    let l = listed c.args.net.now (numerator c.args.slack.now) (denominator c.args.slack.now) c.in-Some.found.vmax c.isqrt.result c.in-Ok.bound.items c.in-Ok.ensures found.vmax_is c.isqrt.ensures.square_le c.isqrt.ensures.next_square_gt in
     record {
       bounds = l.bounds;
       listed = c.new.ensures ∙ l.listed;

@@ -1,14 +1,14 @@
 use Rattle.std.proofs.Common.{◌≡◌, Some}
 use Rattle.mp_model.specs.Bounds.{drift_constant, start_drift}
 use Rattle.mp_drift.specs.Stated.{unit_of, credit_sum, threshold_from, greatest_from}
-use Rattle.mp_drift.specs.Bounded.{excess, denominator}
+use Rattle.mp_num.specs.Fraction.{numerator, denominator}
 use Rattle.mp_drift.proofs.Finding.{found}
 use Rattle.mp_drift.proofs.queue_bounds.greatest_of.Goals as goal
 
 pub returns-clause-found : goal.returns-clause-found
 returns-clause-found c =
     let net = c.args.net.now in
-    let E = excess c.args.slack.now in
+    let E = numerator c.args.slack.now in
     let D = denominator c.args.slack.now in
     let t : threshold_from (unit_of net) (drift_constant net) E D ≡ Some c.in_ok-total.total =
     cc (c.in_ok-total.ensures.value, c.unit-unit.ensures.value, c.drift_of-drift.ensures.value, c.excess_of.ensures.value, c.denominator_of.ensures.value) in

@@ -1,7 +1,7 @@
 use Rattle.std.proofs.Common.{◌≡◌, ℕ, ◌+◌, ◌-◌, List, ◌++◌, ◌∙◌, ap, subst, sum, arith, codes, decimal}
 use Rattle.mp_edge.specs.Outside.{Tells, Puts}
 use Rattle.mp_text.specs.Buffered.{Buffered}
-use Rattle.mp_drift.specs.Bounded.{excess, denominator}
+use Rattle.mp_num.specs.Fraction.{numerator, denominator}
 use Rattle.mp_press.specs.Queues.{naturals}
 use Rattle.mp_step.specs.Standing.{Standing}
 use Rattle.mp_model.specs.Load.{greatest as greatest_of}
@@ -39,7 +39,7 @@ returns-clause-bytes g c =
     let total_in = c.total_in-total_in.ensures.value ∙ ap (λ (st : Standing). st.total_in) at in
     let total_out = c.total_out-total_out.ensures.value ∙ ap (λ (st : Standing). st.total_out) at in
     let rest : i - o ≡ sum s.at.queues = omega (arith, conserved, total_in, total_out) in
-    let same = same_text c.args.n e (excess s.slack) d (denominator s.slack) b (greatest_of (naturals s.bounds)) i s.at.total_in o s.at.total_out (i - o) (sum s.at.queues) c.args.greatest c.excess_of.ensures c.denominator_of.ensures (c.greatest_of.ensures ∙ ap (λ zs. greatest_of (naturals zs)) c.bounds.ensures) total_in total_out rest in
+    let same = same_text c.args.n e (numerator s.slack) d (denominator s.slack) b (greatest_of (naturals s.bounds)) i s.at.total_in o s.at.total_out (i - o) (sum s.at.queues) c.args.greatest c.excess_of.ensures c.denominator_of.ensures (c.greatest_of.ensures ∙ ap (λ zs. greatest_of (naturals zs)) c.bounds.ensures) total_in total_out rest in
     subst (λ (bytes : List ℕ). Tells (g.Out.Sink.held c.args.out.now) (g.Out.Sink.held c.put.new.self) (Puts c.put.result bytes))
     (c.bytes.ensures.value ∙ h16 ∙ text_is c.args.n e d b i o (i - o) c.args.greatest ∙ same) c.put.ensures.bytes
 
@@ -47,4 +47,4 @@ pub returns-clause-summary : goal.returns-clause-summary
 returns-clause-summary g c = λ shown.
     let s = c.args.session.now in
     subst (λ (bytes : List ℕ). Tells (g.Out.Sink.held c.args.out.now) (g.Out.Sink.held c.put.new.self) (Puts c.put.result bytes))
-    (summary_is c.args.n s.net (excess s.slack) (denominator s.slack) (naturals s.bounds) s.at c.args.greatest c.state-state.ensures.bounded.on shown) (returns-clause-bytes g c)
+    (summary_is c.args.n s.net (numerator s.slack) (denominator s.slack) (naturals s.bounds) s.at c.args.greatest c.state-state.ensures.bounded.on shown) (returns-clause-bytes g c)

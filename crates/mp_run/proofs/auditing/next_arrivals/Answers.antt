@@ -15,6 +15,6 @@ pub returns : goal.returns
 returns c =
     let period : c.period-period.result ≡ c.args.session.now.at.period = c.period-period.ensures.value ∙ ap (λ (st : Standing). st.period) c.state.ensures.value in
     let net : length c.fed.result.now ≡ length (fed c.args.session.now.net) = ap (length {A = ℕ}) c.fed.ensures ∙ ap (λ (n : Network). length (fed n)) c.net-net.ensures in
-    let low : c.args.session.now.at.period < 2 ^ 48 = omega (arith, period, c.period-period.ensures.few, c.if-period-eq-PERIOD_LIMIT.false) in
+    let low : c.args.session.now.at.period < 2 ^ 48 = omega (arith, period, c.period-period.ensures.few, c.if-period-eq-MOST_LINES.false) in
     gives_counts c.read_arrivals.result c.is_some.result c.args.session.now.net c.args.session.now.at c.args.line.now c.read_arrivals.new.into.items (c.period-period.result + 1) (length c.fed.result.now) c.is_some.ensures c.read_arrivals.ensures.some c.read_arrivals.ensures.none
     (ap (λ n. n + 1) period) net low

@@ -2,7 +2,7 @@ use Rattle.std.proofs.Common.{◌≡◌, ℤ, pos, ◌≤ℤ◌, ◌*ℤ◌, ari
 use Rattle.std.proofs.lemmas.Int.{ints}
 use Rattle.mp_model.specs.Certificate.{Certifies}
 use Rattle.mp_cert.specs.Views.{cert_of}
-use Rattle.mp_drift.specs.Bounded.{excess, denominator}
+use Rattle.mp_num.specs.Fraction.{numerator, denominator}
 use Rattle.mp_drift.specs.Session.{IsRefused}
 use Rattle.mp_drift.proofs.Opening.{slack_above, calc_refused}
 use Rattle.mp_drift.proofs.Periods.{low_at_opening}
@@ -17,7 +17,7 @@ pub returns-in-Err-bounds-clause-refused : goal.returns-in-Err-bounds-clause-ref
 returns-in-Err-bounds-clause-refused c =
     let certifies : Certifies c.args.net.now (cert_of c.args.cert.now) = (c.in_default.ensures.accepts.0 refl).0 in
     let slack = c.slack-slack.ensures.slack (let some = certifies.excess in omega (arith, ints)) in
-    let refused = calc_refused c.args.net.now (cert_of c.args.cert.now) (excess c.slack-slack.result) (denominator c.slack-slack.result) c.in-Err-bounds.fault (sym c.in_default.ensures.outcome) certifies slack c.in-Err-bounds.ensures.calculation in
+    let refused = calc_refused c.args.net.now (cert_of c.args.cert.now) (numerator c.slack-slack.result) (denominator c.slack-slack.result) c.in-Err-bounds.fault (sym c.in_default.ensures.outcome) certifies slack c.in-Err-bounds.ensures.calculation in
     subst (IsRefused c.args.net.now (cert_of c.args.cert.now)) (sym c.open_fault.ensures) refused
 
 pub invariant_of-result : goal.invariant_of-result
@@ -29,7 +29,7 @@ invariant_of-result c =
       certified = (cert_of c.args.cert.now, certifies, slack);
       bounds = c.in-Ok-bounds.ensures.bounds;
       on = c.in-Ok-empty.ensures.on;
-      drift = low_at_opening c.args.net.now c.shares.ensures.acceptable.network c.in-Ok-empty.state c.in-Ok-empty.ensures.opening c.in-Ok-empty.ensures.taken (excess c.slack-slack.result) (denominator c.slack-slack.result);
+      drift = low_at_opening c.args.net.now c.shares.ensures.acceptable.network c.in-Ok-empty.state c.in-Ok-empty.ensures.opening c.in-Ok-empty.ensures.taken (numerator c.slack-slack.result) (denominator c.slack-slack.result);
     }
 
 pub returns-clause-slack : goal.returns-clause-slack

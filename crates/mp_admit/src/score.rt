@@ -6,7 +6,7 @@ use mp_num::{Frac, Numbers};
 
 /// The slack so far, the junction that it comes from, and a value for each movement of that junction.
 #[derive(Drop)]
-pub struct Standing {
+pub struct Score {
     pub slack: Frac,
     pub junction: JunctionNo,
     pub values: Numbers,

@@ -79,13 +79,13 @@ module _ (net : Network) (flows : Flows) (are : AreFlows net flows) (slack : Fra
       }
 
 pub satisfied : SatisfiedLaw
-satisfied net ok flows are n l standing e =
-    let s : IsSound net flows n standing = some_sound net ok flows are n (Some standing) l e in
+satisfied net ok flows are n l score e =
+    let s : IsSound net flows n score = some_sound net ok flows are n (Some score) l e in
     record {
       lowest = s.lowest;
-      worst = (weights_of net standing, s.whole, s.worst);
+      worst = (weights_of net score, s.whole, s.worst);
       values = s.values;
-      carries = λ i some i'. carries_slack net flows are standing.slack s.lowest (junction_at net i) (s.carries i some i');
+      carries = λ i some i'. carries_slack net flows are score.slack s.lowest (junction_at net i) (s.carries i some i');
     }
 
 pub never_endless : BoundedLaw
