@@ -1,0 +1,4 @@
+pub mod Evens
+pub mod Trails
+pub mod Growing
+pub mod Forming
