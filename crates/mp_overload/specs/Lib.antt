@@ -2,3 +2,4 @@ pub mod Evens
 pub mod Trails
 pub mod Growing
 pub mod Forming
+pub mod Laws
