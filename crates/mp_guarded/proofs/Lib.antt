@@ -1,3 +1,6 @@
 pub mod Owed
-
 pub mod Greens
+pub mod Busy
+pub mod Rows
+pub mod Flows
+pub mod Bounds

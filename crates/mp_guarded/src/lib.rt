@@ -1,6 +1,8 @@
 //! The laws of guarded greens, each on a function with an empty body.
 #![tactic(auto)]
 
+ghost use Rattle.mp_guarded.specs.Bounds.{GuardedBoundLaw, GuardedPassingLaw};
+ghost use Rattle.mp_guarded.specs.Busy.{BusyLaw};
 ghost use Rattle.mp_guarded.specs.Greens.{GreensLaw, WaitLaw};
 
 /// However a cycle is cut, a movement with somebody waiting gets the greens that it is given, less
@@ -12,4 +14,22 @@ pub fn greens_law()
 /// Nobody waits longer than twice the periods of a cycle that the movement is not given.
 pub fn wait_law()
     ensures { WaitLaw }
+{}
+
+/// The queue of one movement is what joined since somebody has been waiting, less what its greens
+/// served (Lindley 1952).
+pub fn busy_law()
+    ensures { BusyLaw }
+{}
+
+/// What passes in any row of periods is a burst and a rate (Cruz 1991), also where movements lead in
+/// a loop: by induction over the periods, for all movements at once.
+pub fn guarded_passing_law()
+    ensures { GuardedPassingLaw }
+{}
+
+/// No queue is above its bound, whatever candidates the junctions take by whatever counts, so long as
+/// a count of 0 is true.
+pub fn guarded_bound_law()
+    ensures { GuardedBoundLaw }
 {}

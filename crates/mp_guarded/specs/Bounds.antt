@@ -1,0 +1,33 @@
+-- The laws on what passes under a guard, and on the bound of each queue.
+use Rattle.std.specs.Prelude.{◌≡◌, ◌≤◌, ◌<◌, ℕ, zero, suc, ◌+◌, ◌*◌, List}
+use Rattle.std.specs.List.{AllByRecursion}
+use Rattle.mp_model.specs.Arrivals.{IsPermitted}
+use Rattle.mp_model.specs.Guard.{Guard, Guards, CarryBursts, Holds, guarded_rate, red}
+use Rattle.mp_model.specs.GuardedRun.{Play, KeepsGuard, first_arrivals, guarded_state, guarded_pass}
+use Rattle.mp_model.specs.Network.{Network, movement_numbers, entry}
+use Rattle.mp_model.specs.NetworkRules.{IsNetwork}
+use Rattle.mp_model.specs.Step.{queue}
+
+-- This is a sum over the n periods from a on.
+abbrev pub total : (ℕ → ℕ) → ℕ → ℕ → ℕ
+total f a zero = 0
+total f a (suc n) = total f a n + f (a + n)
+
+-- This is how many vehicles movement k passes in period t.
+abbrev pub passes_at : Network → Guard → Play → ℕ → ℕ → ℕ
+passes_at net guard play k t = guarded_pass net guard play t (queue (guarded_state net guard play t)) k
+
+-- The arrivals of the first T periods are permitted, and in each of them the junctions keep to the guard, by whatever counts.
+pub record IsGuarded (net : Network) (guard : Guard) (play : Play) (T : ℕ) : Type 0 where
+  pub permitted : IsPermitted net (first_arrivals play T)
+  pub keeps : (t : ℕ) → t < T → KeepsGuard net guard play t
+
+-- What movement k passes in any n periods is, times the denominator, at most its burst times the denominator and its rate for each of them.
+abbrev pub GuardedPassingLaw : Type 0
+GuardedPassingLaw = (net : Network) → IsNetwork net → (guard : Guard) → Guards net guard → (surplus : ℕ → ℕ) (bursts : List ℕ) → CarryBursts net guard surplus bursts → (play : Play) (T : ℕ) → IsGuarded net guard play T →
+    (a n : ℕ) → a + n ≤ T → AllByRecursion (λ k. guard.denominator * total (passes_at net guard play k) a n ≤ guard.denominator * entry bursts k + n * guarded_rate guard k) (movement_numbers net)
+
+-- The queue of movement k is at most each number that holds the bursts before it and what comes at its rate in twice its red periods and one more.
+abbrev pub GuardedBoundLaw : Type 0
+GuardedBoundLaw = (net : Network) → IsNetwork net → (guard : Guard) → Guards net guard → (surplus : ℕ → ℕ) (bursts : List ℕ) → CarryBursts net guard surplus bursts → (play : Play) (T : ℕ) → IsGuarded net guard play T →
+    AllByRecursion (λ k. (bound : ℕ) → Holds net guard (surplus k) bursts k (1 + 2 * red net guard k) bound → queue (guarded_state net guard play T) k ≤ bound) (movement_numbers net)
