@@ -11,7 +11,7 @@ use Rattle.mp_guarded.specs.Greens.{greens_in, KeepsGreens, is_green_at, IsCount
 use Rattle.mp_guarded.proofs.Owed.{Pays, pays_when_counted, pays_at_most_one, sum_with_le, both}
 
 -- the place in the cycle goes up by 1, or a new cycle begins
-next_place : (C t : ℕ) → 1 ≤ C → ((suc t % C ≡ t % C + 1) × (t % C + 1 < C)) ⊎ ((suc t % C ≡ 0) × (t % C + 1 ≡ C))
+pub next_place : (C t : ℕ) → 1 ≤ C → ((suc t % C ≡ t % C + 1) × (t % C + 1 < C)) ⊎ ((suc t % C ≡ 0) × (t % C + 1 ≡ C))
 next_place C t some = ⊎_elim
     (λ (lt : t % C + 1 < C). inl (suc-mod t C ∙ mod-eq_of_lt (omega arith) ∙ omega arith, lt))
     (λ (le : C ≤ t % C + 1). let m = mod-lt t {m = C} some in let e : suc (t % C) ≡ C = omega arith in inr (suc-mod t C ∙ ap (λ n. n % C) e ∙ mod_self C, omega arith))
@@ -65,10 +65,10 @@ row_serves rate flow C G n g o i low owed (across enough) =
 
 -- what is owed at the next beginning: the greens at a new cycle, and else what is left
 module _ (C t : ℕ) (some : 1 ≤ C) (greens paid : List ℕ) where
-  left_over : suc t % C ≡ t % C + 1 → owed_in C greens (suc t) paid ≡ paid
+  pub left_over : suc t % C ≡ t % C + 1 → owed_in C greens (suc t) paid ≡ paid
   left_over e = ap (λ b. cond b greens paid) (ap (λ n. n == 0) e ∙ ne_eqb (t % C + 1) 0 (λ (h : t % C + 1 ≡ 0). absurd (omega arith)))
 
-  made_new : suc t % C ≡ 0 → owed_in C greens (suc t) paid ≡ greens
+  pub made_new : suc t % C ≡ 0 → owed_in C greens (suc t) paid ≡ greens
   made_new e = ap (λ b. cond b greens paid) (eq-eqb (suc t % C) 0 e)
 
 module _ (guard : Guard) (greens : List ℕ) (j : Junction) (counts : ℕ → ℕ → ℕ) (stages : ℕ → ℕ) (T : ℕ) (keeps : KeepsGreens guard greens j counts stages T) (k : ℕ) where
@@ -82,7 +82,7 @@ module _ (guard : Guard) (greens : List ℕ) (j : Junction) (counts : ℕ → �
   owed_of owed = sum_with j.stages owed k
 
   -- one number per stage is owed
-  one_each : (t : ℕ) → t ≤ T → length (account t).owed ≡ length j.stages
+  pub one_each : (t : ℕ) → t ≤ T → length (account t).owed ≡ length j.stages
   one_each zero le = keeps.one_each
   one_each (suc t) le =
       let candidate = keeps.candidates t (omega arith) in

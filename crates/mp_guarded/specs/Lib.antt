@@ -1,3 +1,4 @@
 pub mod Greens
+pub mod Candidates
 pub mod Busy
 pub mod Bounds

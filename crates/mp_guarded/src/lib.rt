@@ -3,6 +3,7 @@
 
 ghost use Rattle.mp_guarded.specs.Bounds.{GuardedBoundLaw, GuardedPassingLaw};
 ghost use Rattle.mp_guarded.specs.Busy.{BusyLaw};
+ghost use Rattle.mp_guarded.specs.Candidates.{CandidateLaw};
 ghost use Rattle.mp_guarded.specs.Greens.{GreensLaw, WaitLaw};
 
 /// However a cycle is cut, a movement with somebody waiting gets the greens that it is given, less
@@ -14,6 +15,11 @@ pub fn greens_law()
 /// Nobody waits longer than twice the periods of a cycle that the movement is not given.
 pub fn wait_law()
     ensures { WaitLaw }
+{}
+
+/// What a junction needs is never more than what is left of the cycle, so a candidate is always there.
+pub fn candidate_law()
+    ensures { CandidateLaw }
 {}
 
 /// The queue of one movement is what joined since somebody has been waiting, less what its greens
