@@ -5,3 +5,5 @@ pub mod Busy
 pub mod Rows
 pub mod Flows
 pub mod Bounds
+pub mod Surplus
+pub mod Cases

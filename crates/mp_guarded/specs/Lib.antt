@@ -2,3 +2,5 @@ pub mod Greens
 pub mod Candidates
 pub mod Busy
 pub mod Bounds
+pub mod Surplus
+pub mod Cases

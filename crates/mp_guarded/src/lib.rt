@@ -4,7 +4,9 @@
 ghost use Rattle.mp_guarded.specs.Bounds.{GuardedBoundLaw, GuardedPassingLaw};
 ghost use Rattle.mp_guarded.specs.Busy.{BusyLaw};
 ghost use Rattle.mp_guarded.specs.Candidates.{CandidateLaw};
+ghost use Rattle.mp_guarded.specs.Cases.{MiscountedCase, UnseenCase};
 ghost use Rattle.mp_guarded.specs.Greens.{GreensLaw, WaitLaw};
+ghost use Rattle.mp_guarded.specs.Surplus.{SurplusLaw};
 
 /// However a cycle is cut, a movement with somebody waiting gets the greens that it is given, less
 /// those of the two parts that are cut off.
@@ -38,4 +40,20 @@ pub fn guarded_passing_law()
 /// a count of 0 is true.
 pub fn guarded_bound_law()
     ensures { GuardedBoundLaw }
+{}
+
+/// The surplus of a movement is decided within one round of the split.
+pub fn surplus_law()
+    ensures { SurplusLaw }
+{}
+
+/// Two approaches under a guard meet the premises of the bound law, though nine are counted whatever
+/// stands there.
+pub fn miscounted_case()
+    ensures { MiscountedCase }
+{}
+
+/// A count of 0 must be true: where somebody waits unseen, a queue rises above that bound.
+pub fn unseen_case()
+    ensures { UnseenCase }
 {}
