@@ -1,0 +1,152 @@
+//! Lines of the controller's input.
+ghost use Rattle.std.specs.Prelude.{◌≡◌, ◌==◌, ◌≤◌, ◌<◌, ◌⊎◌, ◌+◌, ◌++◌, ◌∷◌, [], ℕ, length, drop, false, IsTrue, Some, None, ◌^◌, pos};
+ghost use Rattle.std.specs.List.{list_all, position};
+ghost use Rattle.arrayvec.specs.ArrayVec.{array_vec_len};
+ghost use Rattle.mp_model.specs.ControlLog.{plain_line};
+ghost use Rattle.mp_model.specs.Stream.{is_blank, is_skipped, without_blanks_before, without_blanks_behind, count_of, read_counts};
+ghost use Rattle.mp_press.specs.Queues.{naturals};
+ghost use Rattle.mp_control.specs.Input.{AreSmall, IsOfLine};
+
+use arrayvec::ArrayVec;
+use mp_net::Net;
+use mp_text::read_count;
+
+/// What a line of the input is.
+#[derive(Clone, Copy, Debug, PartialEq, Eq)]
+pub enum InputKind {
+    /// An empty line, one of blanks alone, or a comment.
+    Skipped,
+    /// One count per movement.
+    Counts,
+    /// Not in the grammar.
+    Bad,
+}
+
+fn is_blank(byte: u8) -> bool
+    ensures { result ≡ is_blank byte }
+{
+    byte == b' ' || byte == b'\t'
+}
+
+fn are_blanks(bytes: &[u8]) -> bool
+    ensures { result ≡ list_all is_blank bytes.now }
+{
+    bytes.iter().all(|b| is_blank(*b))
+}
+
+fn is_skipped(line: &[u8]) -> bool
+    ensures { result ≡ is_skipped line.now }
+{
+    match line {
+        [] => true,
+        [first, ..] => *first == b'#' || are_blanks(line),
+    }
+}
+
+// The bytes from the first that is no blank on.
+fn without_blanks_before(bytes: &[u8]) -> &[u8]
+    ensures { result.now ≡ without_blanks_before bytes.now }
+{
+    let mut rest = bytes;
+    while let [first, others @ ..] = rest {
+        if !is_blank(*first) {
+            return rest;
+        }
+        rest = others;
+    }
+    rest
+}
+
+// The bytes up to the last that is no blank.
+fn without_blanks_behind(bytes: &[u8]) -> &[u8]
+    ensures { result.now ≡ without_blanks_behind bytes.now }
+{
+    let mut end = bytes.len();
+    while end > 0 {
+        if !is_blank(bytes[end - 1]) {
+            return &bytes[..end];
+        }
+        end -= 1;
+    }
+    &bytes[..0]
+}
+
+// The place of the first comma.
+fn comma(bytes: &[u8]) -> Option<usize>
+    ensures { result ≡ position (λ b. b == 44) bytes.now }
+{
+    bytes.iter().position(|b| *b == b',')
+}
+
+// The bytes behind the one at this place.
+fn behind(bytes: &[u8], at: usize) -> &[u8]
+    requires { at < length bytes.now }
+    ensures { result.now ≡ drop (at + 1) bytes.now }
+{
+    &bytes[at + 1..]
+}
+
+fn signed(count: u64) -> i128
+    ensures { result ≡ pos count }
+{
+    i128::from(count)
+}
+
+// Appends the count with blanks round it, where it is one and fewer than n are there.
+fn push_count(part: &[u8], n: usize, into: &mut ArrayVec<i128, 512>) -> bool
+    requires few { n ≤ 512 }
+    requires so_far { array_vec_len into.old ≤ n }
+    ensures pushed { IsTrue result → (array_vec_len into.old < n) × ((x : ℕ) × (count_of (without_blanks_behind (without_blanks_before part.now)) ≡ Some x) × (into.new.items ≡ into.old.items ++ pos x ∷ []) × (x < 10 ^ 9)) }
+    ensures refused { result ≡ false → (array_vec_len into.old ≡ n) ⊎ (count_of (without_blanks_behind (without_blanks_before part.now)) ≡ None) }
+{
+    if into.len() == n {
+        return false;
+    }
+    match read_count(without_blanks_behind(without_blanks_before(part))) {
+        Some(count) => {
+            into.push(signed(count));
+            true
+        }
+        None => false,
+    }
+}
+
+// The counts of a line of n counts with a comma between two, and blanks round each.
+fn read_row(line: &[u8], n: usize, into: &mut ArrayVec<i128, 512>) -> bool
+    requires few { n ≤ 512 }
+    requires empty { into.old.items ≡ [] }
+    ensures some { IsTrue result → read_counts n line.now ≡ Some (naturals into.new.items) }
+    ensures small { IsTrue result → AreSmall into.new.items }
+    ensures count { IsTrue result → length into.new.items ≡ n }
+    ensures none { result ≡ false → read_counts n line.now ≡ None }
+{
+    let mut rest = line;
+    while let Some(at) = comma(rest) {
+        if !push_count(&rest[..at], n, into) {
+            return false;
+        }
+        rest = behind(rest, at);
+    }
+    if !push_count(rest, n, into) {
+        return false;
+    }
+    into.len() == n
+}
+
+/// Says what a line of the input is, without its end. With `Counts` it makes `into` the counts, one per
+/// movement in movement order.
+pub fn read_input(net: &Net, line: &[u8], into: &mut ArrayVec<i128, 512>) -> InputKind
+    ensures line { IsOfLine result into.new.items (plain_line net.now line.now) }
+    ensures small { result ≡ InputKind.Counts → AreSmall into.new.items }
+    ensures count { result ≡ InputKind.Counts → length into.new.items ≡ length net.now.movements }
+{
+    into.clear();
+    if is_skipped(line) {
+        return InputKind::Skipped;
+    }
+    if read_row(line, usize::from(net.movements()), into) {
+        InputKind::Counts
+    } else {
+        InputKind::Bad
+    }
+}
