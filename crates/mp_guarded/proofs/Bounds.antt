@@ -1,14 +1,13 @@
 -- The burst of what passes under a guard, and the bound of each queue, by induction over the periods for all movements at once.
-use Rattle.std.proofs.Common.{◌≡◌, ◌==◌, ℕ, zero, suc, ◌+◌, ◌-◌, ◌*◌, ◌≤◌, ◌<◌, Bool, true, false, cond, List, [], ◌∷◌, length, map, sum_by, arith, refl, sym, ◌∙◌, ap, subst, ⊎_elim, mul-le-mul_left, zero-le, le_refl, eq-eqb, inl, inr, ◌⊎◌}
+use Rattle.std.proofs.Common.{◌≡◌, ◌==◌, ℕ, zero, suc, ◌+◌, ◌-◌, ◌*◌, ◌≤◌, ◌<◌, Bool, true, false, cond, List, [], ◌∷◌, length, map, sum_by, arith, refl, sym, ◌∙◌, ap, subst, ⊎_elim, mul-le-mul_left, zero-le, le_refl, inl, inr, ◌⊎◌}
 use Rattle.std.proofs.Math.Nat.{le_of_mul-le-mul_left}
-use Rattle.std.proofs.lemmas.Bool.{cases_lt, or_left, or_right}
-use Rattle.std.proofs.lemmas.List.Sums.{sum_by-cons}
-use Rattle.std.specs.List.{AllByRecursion, range_with_len}
+use Rattle.std.proofs.lemmas.Bool.{cases_lt}
+use Rattle.std.specs.List.{AllByRecursion}
 use Rattle.mp_laws.proofs.Lists.{at_in, each_in, filter_sub}
 use Rattle.mp_laws.proofs.Sums.{sum_by-le_at, sum_by-add, sum_by-mul}
 use Rattle.mp_model.specs.Guard.{Guard, Guards, GuardedServeRule, CarryBursts, HasSurplus, Holds, CarriesBurst, FlowRule, GuardedBalanceRule, GreensFit, crowd, guarded_rate, greens_at, given, given_of, red}
 use Rattle.mp_model.specs.GuardedRun.{Play, KeepsGuard, IsCandidate, account_of, stage_of, green_in, guarded_pass, guarded_state}
-use Rattle.mp_model.specs.Network.{Network, Junction, first_holder, stands_in, goes_to, to_of, movement_numbers, link_numbers, junction_numbers, link_at, junction_at, junction_of_movement, from_of, flow_of, share_of, start_of, rate_before, burst_before, into_link, has, entry}
+use Rattle.mp_model.specs.Network.{Network, goes_to, to_of, movement_numbers, link_numbers, junction_numbers, link_at, junction_at, junction_of_movement, from_of, flow_of, share_of, start_of, rate_before, burst_before, into_link, has, entry}
 use Rattle.mp_model.specs.NetworkRules.{IsNetwork}
 use Rattle.mp_model.specs.Step.{queue, joined}
 use Rattle.mp_guarded.specs.Greens.{KeepsGreens, IsCounted, greens_in}
@@ -18,6 +17,7 @@ use Rattle.mp_guarded.specs.Bounds.{total, passes_at, IsGuarded}
 use Rattle.mp_guarded.proofs.Busy.{is_busy}
 use Rattle.mp_guarded.proofs.Flows.{queue_at, received_at, came_at, arrived_at, passes_few, links_in, received_row, queue_row, first_queue, none_came, served, arrivals_row}
 use Rattle.mp_guarded.proofs.Greens.{greens_hold}
+use Rattle.mp_guarded.proofs.Places.{junction_in}
 use Rattle.mp_guarded.proofs.Rows.{add_none}
 
 -- ---- over plain numbers
@@ -50,30 +50,7 @@ settled W d h red n m x crowd b some a carries = le_of_mul-le-mul_left {k = W} (
 held : (W d h red n x crowd b : ℕ) → 1 ≤ W → 1 ≤ d → W * d * x + W * (n * h) ≤ crowd + (1 + n) * (W * h) + W * (2 * (h * red)) → crowd + W * h * (1 + 2 * red) ≤ W * d * b → x ≤ b
 held W d h red n x crowd b some some' a carries = le_of_mul-le-mul_left {k = d} (le_of_mul-le-mul_left {k = W} (omega arith) some) some'
 
--- ---- where a movement's junction is
-holder_in : (k i : ℕ) (js : List Junction) → 1 ≤ sum_by (λ j. cond (stands_in j k) 1 0) js → (i ≤ first_holder i js k) × (first_holder i js k < i + length js)
-holder_in k i [] some = absurd (omega arith)
-holder_in k i (j ∷ js) some = go (stands_in j k) (holder_in k (suc i) js) (omega (arith, sum_by-cons (λ j. cond (stands_in j k) 1 0) j js))
-  where
-    go : (b : Bool) → (1 ≤ sum_by (λ j. cond (stands_in j k) 1 0) js → (suc i ≤ first_holder (suc i) js k) × (first_holder (suc i) js k < suc i + length js)) → 1 ≤ cond b 1 0 + sum_by (λ j. cond (stands_in j k) 1 0) js →
-        (i ≤ cond b i (first_holder (suc i) js k)) × (cond b i (first_holder (suc i) js k) < i + length (j ∷ js))
-    go true more s = (omega arith, omega arith)
-    go false more s = let m = more (omega arith) in (omega (arith, m.0), omega (arith, m.1))
-
-range_has : (a n x : ℕ) → a ≤ x → x < a + n → has (range_with_len a n) x ≡ true
-range_has a zero x low high = absurd (omega arith)
-range_has a (suc n) x low high = ⊎_elim
-    (λ (lt : a < x). or_right (a == x) (has (range_with_len (a + 1) n) x) (range_has (a + 1) n x (omega arith) (omega arith)))
-    (λ (le : x ≤ a). or_left (a == x) (has (range_with_len (a + 1) n) x) (eq-eqb a x (omega arith)))
-    (cases_lt a x)
-
 module _ (net : Network) (ok : IsNetwork net) (guard : Guard) (guards : Guards net guard) (play : Play) (T : ℕ) (guarded : IsGuarded net guard play T) where
-  junction_in : (k : ℕ) → has (movement_numbers net) k ≡ true → has (junction_numbers net) (junction_of_movement net k) ≡ true
-  junction_in k in' =
-      let placed : sum_by (λ j. cond (stands_in j k) 1 0) net.junctions ≡ 1 = at_in (λ k. sum_by (λ j. cond (stands_in j k) 1 0) net.junctions ≡ 1) k (movement_numbers net) in' ok.placed in
-      let h = holder_in k 1 net.junctions (omega arith) in
-      range_has 1 (length net.junctions) (junction_of_movement net k) h.0 h.1
-
   keeps_greens : (j : ℕ) → has (junction_numbers net) j ≡ true → KeepsGreens guard (greens_at guard j) (junction_at net j) play.counts (stage_of play j) T
   keeps_greens j in' = record {
     some = guards.cycle.0;
@@ -98,7 +75,7 @@ module _ (net : Network) (ok : IsNetwork net) (guard : Guard) (guards : Guards n
       let j = junction_of_movement net k in
       let low : guarded_rate guard k ≤ flow_of net k * guard.denominator = at_in (FlowRule net guard) k (movement_numbers net) in' guards.flows in
       let serve = at_in (GuardedServeRule net guard) k (movement_numbers net) in' guards.serves in
-      greens_hold guard (greens_at guard j) (junction_at net j) play.counts (stage_of play j) T (keeps_greens j (junction_in k in')) k a n le (counted k a n in' le waits)
+      greens_hold guard (greens_at guard j) (junction_at net j) play.counts (stage_of play j) T (keeps_greens j (junction_in net ok k in')) k a n le (counted k a n in' le waits)
       (guarded_rate guard k) (guard.denominator * flow_of net k) (omega arith) serve.serves
 
   module _ (surplus : ℕ → ℕ) (b : List ℕ) (carry : CarryBursts net guard surplus b) where
@@ -216,7 +193,7 @@ passing_bounded net ok guard guards surplus bursts carry play T guarded a n le =
     (λ k in'. passes_at_most net ok guard guards play T guarded surplus bursts carry T (le_refl T) k in' a n le)
 
 pub queues_bounded : (net : Network) → IsNetwork net → (guard : Guard) → Guards net guard → (surplus : ℕ → ℕ) (bursts : List ℕ) → CarryBursts net guard surplus bursts → (play : Play) (T : ℕ) → IsGuarded net guard play T →
-    AllByRecursion (λ k. (bound : ℕ) → Holds net guard (surplus k) bursts k (1 + 2 * red net guard k) bound → queue (guarded_state net guard play T) k ≤ bound) (movement_numbers net)
-queues_bounded net ok guard guards surplus bursts carry play T guarded =
-    each_in (λ k. (bound : ℕ) → Holds net guard (surplus k) bursts k (1 + 2 * red net guard k) bound → queue (guarded_state net guard play T) k ≤ bound) (movement_numbers net)
-    (λ k in' bound holds. queue_at_most net ok guard guards play T guarded surplus bursts carry T (le_refl T) k in' bound holds)
+    (t : ℕ) → t ≤ T → AllByRecursion (λ k. (bound : ℕ) → Holds net guard (surplus k) bursts k (1 + 2 * red net guard k) bound → queue (guarded_state net guard play t) k ≤ bound) (movement_numbers net)
+queues_bounded net ok guard guards surplus bursts carry play T guarded t in_time =
+    each_in (λ k. (bound : ℕ) → Holds net guard (surplus k) bursts k (1 + 2 * red net guard k) bound → queue (guarded_state net guard play t) k ≤ bound) (movement_numbers net)
+    (λ k in' bound holds. queue_at_most net ok guard guards play T guarded surplus bursts carry t in_time k in' bound holds)

@@ -209,7 +209,7 @@ module _ (guard : Guard) (greens : List ℕ) (j : Junction) (counts : ℕ → �
           omega (arith, e.0)))
       (next_place guard.cycle t keeps.some)
 
-  before_in : (t : ℕ) → KeepsGreens guard greens j counts stages t → (r : ℕ) → (account t).before ≡ Some r → (1 ≤ r) × (r ≤ length j.stages)
+  pub before_in : (t : ℕ) → KeepsGreens guard greens j counts stages t → (r : ℕ) → (account t).before ≡ Some r → (1 ≤ r) × (r ≤ length j.stages)
   before_in zero keeps r e = cc
   before_in (suc t) keeps r e = let is : stages t ≡ r = cc in let range = (keeps.candidates t (omega arith)).is_stage in (omega (arith, range.0), omega (arith, range.1))
 

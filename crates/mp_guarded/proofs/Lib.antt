@@ -4,6 +4,8 @@ pub mod Candidates
 pub mod Busy
 pub mod Rows
 pub mod Flows
+pub mod Places
 pub mod Bounds
 pub mod Surplus
+pub mod Runs
 pub mod Cases

@@ -27,7 +27,7 @@ abbrev pub GuardedPassingLaw : Type 0
 GuardedPassingLaw = (net : Network) → IsNetwork net → (guard : Guard) → Guards net guard → (surplus : ℕ → ℕ) (bursts : List ℕ) → CarryBursts net guard surplus bursts → (play : Play) (T : ℕ) → IsGuarded net guard play T →
     (a n : ℕ) → a + n ≤ T → AllByRecursion (λ k. guard.denominator * total (passes_at net guard play k) a n ≤ guard.denominator * entry bursts k + n * guarded_rate guard k) (movement_numbers net)
 
--- The queue of movement k is at most each number that holds the bursts before it and what comes at its rate in twice its red periods and one more.
+-- At each beginning the queue of movement k is at most each number that holds the bursts before it and what comes at its rate in twice its red periods and one more.
 abbrev pub GuardedBoundLaw : Type 0
 GuardedBoundLaw = (net : Network) → IsNetwork net → (guard : Guard) → Guards net guard → (surplus : ℕ → ℕ) (bursts : List ℕ) → CarryBursts net guard surplus bursts → (play : Play) (T : ℕ) → IsGuarded net guard play T →
-    AllByRecursion (λ k. (bound : ℕ) → Holds net guard (surplus k) bursts k (1 + 2 * red net guard k) bound → queue (guarded_state net guard play T) k ≤ bound) (movement_numbers net)
+    (t : ℕ) → t ≤ T → AllByRecursion (λ k. (bound : ℕ) → Holds net guard (surplus k) bursts k (1 + 2 * red net guard k) bound → queue (guarded_state net guard play t) k ≤ bound) (movement_numbers net)

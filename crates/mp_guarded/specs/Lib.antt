@@ -3,4 +3,5 @@ pub mod Candidates
 pub mod Busy
 pub mod Bounds
 pub mod Surplus
+pub mod Runs
 pub mod Cases

@@ -6,6 +6,7 @@ ghost use Rattle.mp_guarded.specs.Busy.{BusyLaw};
 ghost use Rattle.mp_guarded.specs.Candidates.{CandidateLaw};
 ghost use Rattle.mp_guarded.specs.Cases.{MiscountedCase, UnseenCase};
 ghost use Rattle.mp_guarded.specs.Greens.{GreensLaw, WaitLaw};
+ghost use Rattle.mp_guarded.specs.Runs.{GuardedRunLaw, GuardedStagesLaw};
 ghost use Rattle.mp_guarded.specs.Surplus.{SurplusLaw};
 
 /// However a cycle is cut, a movement with somebody waiting gets the greens that it is given, less
@@ -40,6 +41,16 @@ pub fn guarded_passing_law()
 /// a count of 0 is true.
 pub fn guarded_bound_law()
     ensures { GuardedBoundLaw }
+{}
+
+/// In the run by its own queues each junction takes a candidate in every period.
+pub fn guarded_stages_law()
+    ensures { GuardedStagesLaw }
+{}
+
+/// No queue of that run is above its bound: it is a play whose counts are the queues.
+pub fn guarded_run_law()
+    ensures { GuardedRunLaw }
 {}
 
 /// The surplus of a movement is decided within one round of the split.
