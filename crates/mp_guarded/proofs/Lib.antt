@@ -8,4 +8,5 @@ pub mod Places
 pub mod Bounds
 pub mod Surplus
 pub mod Runs
+pub mod Sweeps
 pub mod Cases

@@ -4,4 +4,5 @@ pub mod Busy
 pub mod Bounds
 pub mod Surplus
 pub mod Runs
+pub mod Sweeps
 pub mod Cases

@@ -8,6 +8,7 @@ ghost use Rattle.mp_guarded.specs.Cases.{MiscountedCase, UnseenCase};
 ghost use Rattle.mp_guarded.specs.Greens.{GreensLaw, WaitLaw};
 ghost use Rattle.mp_guarded.specs.Runs.{GuardedRunLaw, GuardedStagesLaw};
 ghost use Rattle.mp_guarded.specs.Surplus.{SurplusLaw};
+ghost use Rattle.mp_guarded.specs.Sweeps.{SweepsLaw};
 
 /// However a cycle is cut, a movement with somebody waiting gets the greens that it is given, less
 /// those of the two parts that are cut off.
@@ -56,6 +57,12 @@ pub fn guarded_run_law()
 /// The surplus of a movement is decided within one round of the split.
 pub fn surplus_law()
     ensures { SurplusLaw }
+{}
+
+/// Where sweeps from a list of zeros have come to rest, the bursts are the least that carry those
+/// before them, and the printed bounds the least under them.
+pub fn sweeps_law()
+    ensures { SweepsLaw }
 {}
 
 /// Two approaches under a guard meet the premises of the bound law, though nine are counted whatever
