@@ -68,3 +68,7 @@ HeldFrom-none js k j held past = sym (held.same ∙ rw (none js (j - 1) (omega a
     none (x ∷ xs) (suc n) e = none xs n (omega arith)
 
 pub ruleset holders = (HeldFrom-start, HeldFrom-more, HeldFrom-hit, HeldFrom-none)
+
+-- rows that hold one fact hold another that it gives
+pub FilledTo-map : {X : Type 0} (P Q : ℕ → X → Type 0) (i : ℕ) (rows : List X) → FilledTo P i rows → ((k : ℕ) (row : X) → P k row → Q k row) → FilledTo Q i rows
+FilledTo-map P Q i rows filled gives = record { count = filled.count; each = λ k low high other. gives k (get_or rows (k - 1) other) (filled.each k low high other) }

@@ -4,6 +4,7 @@
 mod check;
 mod constructor;
 mod fault;
+mod greens;
 mod net;
 mod outlets;
 mod parts;
@@ -20,3 +21,4 @@ pub use parts::{
 };
 pub use rules::links::links_are_there;
 pub use rules::spot::first_spot;
+pub use tables::Turn;

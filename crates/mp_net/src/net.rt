@@ -6,7 +6,8 @@ ghost use Rattle.mp_net.specs.Spots.{first_broken};
 ghost use Rattle.mp_net.specs.Rules.{part_rules};
 ghost use Rattle.mp_net.specs.Parts.{network_of, link_of, movement_of, junction_of};
 
-use crate::tables::{JunctionRow, LinkRow, fed, junction_rows, link_rows};
+use crate::greens::{StageSpan, put_greens};
+use crate::tables::{JunctionRow, LinkRow, Turn, fed, junction_rows, link_rows, turns};
 use crate::{
     JunctionNo, JunctionPart, LinkNo, LinkPart, MovementNo, MovementPart, NetParts, NoMemory,
     StageNo,
@@ -21,6 +22,10 @@ pub struct Net {
     fed: Vec<LinkNo>,
     by_link: Vec<LinkRow>,
     by_junction: Vec<JunctionRow>,
+    turns: Vec<Turn>,
+    // The movements that have green, stage after stage, and where each stage of each junction lies.
+    greens: Vec<MovementNo>,
+    by_stage: Vec<Vec<StageSpan>>,
 }
 
 impl Model for Net {
@@ -44,11 +49,17 @@ impl Net {
         let fed = fed(alloc, &parts)?;
         let by_link = link_rows(alloc, &parts, &fed)?;
         let by_junction = junction_rows(alloc, &parts)?;
+        let turns = turns(alloc, &parts)?;
+        let mut greens = Vec::new(alloc);
+        let by_stage = put_greens(alloc, &parts, &mut greens)?;
         Ok(Net {
             parts,
             fed,
             by_link,
             by_junction,
+            turns,
+            greens,
+            by_stage,
         })
     }
 
@@ -123,6 +134,17 @@ impl Net {
         &self.parts.movements[usize::from(k) - 1]
     }
 
+    /// What a period asks of the movement: where it goes from and to, its share and its flow.
+    pub fn turn(&self, k: MovementNo) -> &Turn
+        requires { (1 ≤ k) × (k ≤ length self.now.movements) }
+        ensures from { result.now.from ≡ from_of self.now k }
+        ensures to { result.now.to ≡ to_of self.now k }
+        ensures share { result.now.share ≡ share_of self.now k }
+        ensures flow { result.now.flow ≡ flow_of self.now k }
+    {
+        &self.turns[usize::from(k) - 1]
+    }
+
     /// The junction.
     pub fn junction(&self, j: JunctionNo) -> &JunctionPart
         requires { (1 ≤ j) × (j ≤ length self.now.junctions) }
@@ -146,7 +168,8 @@ impl Net {
         requires { (1 ≤ j) × (j ≤ length self.now.junctions) × (1 ≤ s) × (s ≤ length (junction_at self.now j).stages) }
         ensures { result.now ≡ stage_at (junction_at self.now j) s }
     {
-        &self.parts.junctions[usize::from(j) - 1].stages[usize::from(s) - 1]
+        let span = &self.by_stage[usize::from(j) - 1][usize::from(s) - 1];
+        &self.greens[span.start..span.end]
     }
 
     /// The movements out of the link, in ascending order.

@@ -4,7 +4,7 @@ ghost use Rattle.std.specs.List.{list_any};
 ghost use Rattle.mp_model.specs.Network.{link_at, link_numbers, movement_numbers, from_of, to_of, goes_to, has, is_fed, out_of, into_link, stands_in, own, fed, junction_at, junction_of_movement, first_junction};
 ghost use Rattle.mp_net.specs.Parts.{network_of, junction_of};
 ghost use Rattle.mp_net.specs.Small.{IsSmall};
-ghost use Rattle.mp_net.specs.Rows.{IsTable, IsLinkRow, IsJunctionRow};
+ghost use Rattle.mp_net.specs.Rows.{IsTable, IsLinkRow, IsJunctionRow, IsTurn};
 
 use crate::rules::stages::any_has;
 use crate::{JunctionNo, JunctionPart, LinkNo, MovementNo, NetParts};
@@ -32,6 +32,20 @@ pub struct JunctionRow {
     pub targets: Vec<LinkNo>,
     /// The movements out of those links.
     pub next: Vec<MovementNo>,
+}
+
+/// What a period asks of a movement, without its name: the links that it goes from and to, its share in
+/// parts of the share total, and its flow in vehicles per period.
+#[derive(Clone, Copy)]
+pub struct Turn {
+    /// The link that it leaves.
+    pub from: LinkNo,
+    /// The link that it goes to, or none for the outside.
+    pub to: Option<LinkNo>,
+    /// Its share.
+    pub share: u32,
+    /// Its saturation flow.
+    pub flow: u32,
 }
 
 /// The link that the movement leaves, or 0 where there is no such movement.
@@ -245,6 +259,33 @@ pub fn junction_rows(alloc: Global, parts: &NetParts) -> Result<Vec<JunctionRow>
     let mut rows = Vec::new(alloc);
     for j in 1..end {
         rows.push(junction_row(alloc, parts, &parts.junctions[usize::from(j) - 1])?)?;
+    }
+    Ok(rows)
+}
+
+fn turn_of(parts: &NetParts, k: MovementNo) -> Turn
+    requires { (1 ≤ k) × (k ≤ length parts.now.movements.items) }
+    ensures { IsTurn (network_of parts.now) k result }
+{
+    let movement = &parts.movements[usize::from(k) - 1];
+    Turn {
+        from: movement.from,
+        to: movement.to,
+        share: movement.share,
+        flow: movement.flow,
+    }
+}
+
+/// One short row per movement.
+#[tactic(auto, using(crate::proofs::Filled::filled))]
+pub fn turns(alloc: Global, parts: &NetParts) -> Result<Vec<Turn>, AllocError>
+    requires { IsSmall parts.now }
+    ensures { IfOk result (λ rows. IsTable (IsTurn (network_of parts.now)) (length (network_of parts.now).movements) rows.items) }
+{
+    let end = parts.movements.len() as MovementNo + 1;
+    let mut rows = Vec::new(alloc);
+    for k in 1..end {
+        rows.push(turn_of(parts, k))?;
     }
     Ok(rows)
 }
