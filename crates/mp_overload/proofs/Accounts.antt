@@ -1,5 +1,5 @@
 -- The exact account of a trail, and the growth that follows from it.
-use Rattle.std.proofs.Common.{◌≡◌, ◌==◌, ℕ, zero, suc, ◌+◌, ◌-◌, ◌*◌, ◌/◌, ◌%◌, ◌≤◌, ◌<◌, Bool, true, false, cond, ◌&&◌, min, nat_lt, List, [], ◌∷◌, length, filter, map, sum_by, pos, ◌-ℤ◌, ◌*ℤ◌, ◌≤ℤ◌, arith, refl, sym, ◌∙◌, ap, subst, eq-eqb, mul-le-mul_left, mul_comm, ltb-false, zero-le}
+use Rattle.std.proofs.Common.{◌≡◌, ◌==◌, ℕ, ◌+◌, ◌-◌, ◌*◌, ◌/◌, ◌%◌, ◌≤◌, ◌<◌, Bool, true, false, cond, ◌&&◌, min, nat_lt, List, [], ◌∷◌, length, sum_by, pos, ◌-ℤ◌, ◌*ℤ◌, ◌≤ℤ◌, arith, refl, sym, ◌∙◌, ap, subst, eq-eqb, mul-le-mul_left, mul_comm, ltb-false}
 use Rattle.std.proofs.Math.Nat.{zero-div, mod-lt}
 use Rattle.std.proofs.lemmas.Int.{ints}
 use Rattle.std.specs.List.{AllByRecursion, IsDistinct}
@@ -7,7 +7,7 @@ use Rattle.mp_laws.proofs.Credits.{grows, upper}
 use Rattle.mp_laws.proofs.Distinct.{range_distinct, distinct_filter}
 use Rattle.mp_laws.proofs.Drift.{cond-le}
 use Rattle.mp_laws.proofs.Exchange.{exchange}
-use Rattle.mp_laws.proofs.Lists.{AllOf-map, at_in, each_in, has_filter, numbered}
+use Rattle.mp_laws.proofs.Lists.{at_in, each_in, has_filter, numbered}
 use Rattle.mp_laws.proofs.Signed.{ring}
 use Rattle.mp_laws.proofs.Sums.{sum_by-le_at, sum_by-le, sum_by-mul, sum_by-add, sum_by-filter, sum_by-same}
 use Rattle.mp_model.specs.Arrivals.{arrivals_of}
@@ -16,11 +16,11 @@ use Rattle.mp_model.specs.Network.{Network, movement_numbers, link_numbers, link
 use Rattle.mp_model.specs.NetworkRules.{IsNetwork}
 use Rattle.mp_model.specs.Pressure.{queued_downstream, positive_weight}
 use Rattle.mp_model.specs.Run.{opening}
-use Rattle.mp_model.specs.Step.{State, queue, received_by, has_green, passed, got, joined, new_queue, step}
+use Rattle.mp_model.specs.Step.{State, queue, received_by, has_green, passed, got, joined, new_queue}
 use Rattle.mp_overload.proofs.Evens.{come, comes, even_on}
 use Rattle.mp_overload.proofs.Passing.{passes_positive}
-use Rattle.mp_overload.specs.Evens.{come_by, even_count, even_arrivals}
-use Rattle.mp_overload.specs.Growing.{rated, lost_to_split, lost_to_counts, lost_to_rounding, weighed_queues, growth, HasGrown}
+use Rattle.mp_overload.specs.Evens.{come_by, even_arrivals}
+use Rattle.mp_overload.specs.Growing.{lost_to_split, lost_to_rounding, weighed_queues, HasGrown}
 use Rattle.mp_overload.specs.Trails.{trail_period, trail_from, trail, IsOnTrail}
 
 -- What is known of movement k: its queue and all that it passed are its start queue and all that joined it.

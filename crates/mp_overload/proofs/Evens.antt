@@ -1,16 +1,19 @@
 -- Even arrivals, their sums, and why they keep to the buckets.
-use Rattle.std.proofs.Common.{◌≡◌, ◌==◌, ℕ, zero, suc, ◌+◌, ◌-◌, ◌*◌, ◌/◌, ◌%◌, ◌≤◌, ◌<◌, Bool, true, false, cond, ◌&&◌, ◌||◌, not, List, [], ◌∷◌, ◌++◌, length, map, None, arith, refl, sym, ◌∙◌, ap, subst, ap₂, zero-le, eqb-true, nat_lt}
-use Rattle.std.proofs.Math.Nat.{div-add-mod, mod-lt, mod-eq_of_lt, div-le_self}
+use Rattle.std.proofs.Common.{◌≡◌, ◌==◌, ℕ, zero, suc, ◌+◌, ◌-◌, ◌*◌, ◌/◌, ◌%◌, ◌≤◌, ◌<◌, Bool, true, false, cond, ◌&&◌, ◌||◌, not, List, [], ◌∷◌, ◌++◌, length, map, sum, find, Some, None, All, ◌^◌, arith, refl, sym, ◌∙◌, ap, subst, ap₂, zero-le, eqb-true, eq-eqb, nat_lt, add-zero}
+use Rattle.std.proofs.Math.Nat.{div-add-mod, mod-lt, mod-eq_of_lt, div-le_self, mul-div_left, le_of_mul-le-mul_left}
 use Rattle.std.proofs.lemmas.Nat.{le-div, mul-mod_first}
-use Rattle.std.proofs.lemmas.Bool.{true≢false}
+use Rattle.std.proofs.lemmas.Bool.{true≢false, or_left, or_right}
+use Rattle.std.proofs.lemmas.Option.{same_Some}
+use Rattle.std.proofs.lemmas.List.Sums.{sum_by-cons}
+use Rattle.std.proofs.lemmas.List.Elements.{All-from_recursion}
 use Rattle.std.proofs.lemmas.List.{length-map}
-use Rattle.std.proofs.lemmas.List.FromFn.{map-range_with_len_more}
+use Rattle.std.proofs.lemmas.List.FromFn.{map-range_with_len_more, length-map-range_with_len}
 use Rattle.std.specs.List.{AllByRecursion, range_with_len}
-use Rattle.mp_model.specs.Arrivals.{count_in, arrivals_of, counts_of, HasCounts, KeepsTo, StaysWithin, IsPermitted}
-use Rattle.mp_model.specs.Network.{Network, link_at, link_numbers, numbers_to, has, fed, is_fed}
-use Rattle.mp_model.specs.NetworkRules.{IsNetwork}
-use Rattle.mp_laws.proofs.Lists.{AllOf-map, at_in, each_in, find_none, has_filter, filter_sub}
-use Rattle.mp_laws.proofs.Windows.{keeps_to}
+use Rattle.mp_model.specs.Arrivals.{count_in, arrivals_of, counts_of, HasCounts, KeepsTo, StaysWithin, next_level, IsPermitted}
+use Rattle.mp_model.specs.Network.{Network, Link, no_link, link_at, link_numbers, numbers_to, has, fed, is_fed}
+use Rattle.mp_model.specs.NetworkRules.{IsNetwork, IsInRange}
+use Rattle.mp_laws.proofs.Lists.{AllOf-map, at_in, at_index, each_in, find_none, has_filter, filter_sub}
+use Rattle.mp_laws.proofs.Windows.{keeps_to, stays_within}
 use Rattle.mp_overload.specs.Evens.{come_by, even_count, even_count_on, even_arrivals, even_periods, is_uneven, uneven_link}
 
 -- what has come by a period, and what its rounding leaves over
@@ -101,3 +104,67 @@ even_permitted net ok none T = record {
       (λ l e. subst (KeepsTo net.per (link_at net l).burst (link_at net l).rate) (sym (counts_same net l e.1 (numbers_to T))) (keeps net.per (link_at net l).burst (link_at net l).rate ok.per e.0 T))
       (fed net) (each_in _ (fed net) (λ l h. (at_in (λ l. is_uneven net.per (link_at net l) ≡ false) l (fed net) h (find_none (λ l. is_uneven net.per (link_at net l)) (fed net) none), filter_sub (λ l. is_fed (link_at net l)) (link_numbers net) l h)));
 }
+
+-- an even count is at most the rate of a period, rounded up
+pub count_few : (per rate most t : ℕ) → 1 ≤ per → rate ≤ most * per → even_count per rate (t + 1) ≤ most + 1
+count_few per rate most t h few =
+    let joins = ap (λ n. per * n) (comes per rate t h) in
+    let left = mod-lt (rate * t) h in
+    le_of_mul-le-mul_left {k = per} (omega (arith, joins, (come per rate t).whole, (come per rate (t + 1)).whole, few, left)) h
+
+few_on : (net : Network) (t : ℕ) → 1 ≤ net.per → ((l : ℕ) → (link_at net l).rate ≤ 1000 * net.per) → (ls : List ℕ) → AllByRecursion (λ a. a < 10 ^ 9) (map (even_count_on net (t + 1)) ls)
+few_on net t h few [] = tt
+few_on net t h few (l ∷ ls) = (let less = count_few net.per (link_at net l).rate 1000 t h (few l) in omega (arith, less), few_on net t h few ls)
+
+-- even arrivals have few digits
+pub even_few : (net : Network) → IsNetwork net → IsInRange net → (t : ℕ) → All (λ a. a < 10 ^ 9) (even_arrivals net (t + 1))
+even_few net ok range t = All-from_recursion (λ a. a < 10 ^ 9) (even_arrivals net (t + 1))
+    (few_on net t ok.per (λ l. at_index (λ (link : Link). link.rate ≤ 1000 * net.per) no_link net.links (l - 1) range.rates zero-le) (fed net))
+
+-- all even counts of t periods and m more
+counts_sum : (per rate : ℕ) → 1 ≤ per → (m t : ℕ) → come_by per rate t + sum (map (even_count per rate) (range_with_len (t + 1) m)) ≡ come_by per rate (t + m)
+counts_sum per rate h zero t = omega (arith, ap (λ n. come_by per rate n) (sym (add-zero t)))
+counts_sum per rate h (suc m) t =
+    let e : (t + 1) + m ≡ t + suc m = omega arith in
+    omega (arith, sum_by-cons (λ x. x) (even_count per rate (t + 1)) (map (even_count per rate) (range_with_len ((t + 1) + 1) m)), comes per rate t h, counts_sum per rate h m (t + 1), ap (λ n. come_by per rate n) e)
+
+-- where the burst is 0 no count is above the rate of a period, rounded down
+none_above : (per rate : ℕ) → 1 ≤ per → (level : ℕ) (counts : List ℕ) → StaysWithin per 0 rate level counts → sum counts ≤ length counts * (rate / per)
+none_above per rate h level [] s = zero-le
+none_above per rate h level (count ∷ counts) s =
+    let low : count * per ≤ rate = omega (arith, s.0) in
+    omega (arith, sum_by-cons (λ x. x) count counts, le-div count rate per h low, none_above per rate h (next_level per rate level count) counts s.1)
+
+-- but more comes in a rate length where the rate is uneven
+pub uneven_exceeds : (per rate : ℕ) → 1 ≤ per → KeepsTo per 0 rate (map (even_count per rate) (numbers_to per)) → rate % per ≡ 0
+uneven_exceeds per rate h kept =
+    let most = none_above per rate h 0 _ (stays_within per 0 rate _ kept) in
+    let size : length (map (even_count per rate) (numbers_to per)) ≡ per = length-map-range_with_len (even_count per rate) 1 per in
+    let most' = ap (λ n. n * (rate / per)) size in
+    let all = counts_sum per rate h per 0 in
+    let none : come_by per rate 0 ≤ 0 = omega (arith, div-le_self (rate * 0) per) in
+    let here : 0 + per ≡ per = omega arith in
+    let whole : come_by per rate (0 + per) ≡ rate = ap (λ n. come_by per rate n) here ∙ mul-div_left rate h in
+    omega (arith, most, most', all, none, whole, div-add-mod rate per)
+
+-- the link that is found is among those that were searched, and passes the test
+found_some : (test : ℕ → Bool) (xs : List ℕ) (x : ℕ) → find test xs ≡ Some x → (has xs x ≡ true) × (test x ≡ true)
+found_some test (y ∷ ys) x e = go (found_some test ys x) (test y) refl e
+  where
+    go : (find test ys ≡ Some x → (has ys x ≡ true) × (test x ≡ true)) → (b : Bool) → test y ≡ b → cond b (Some y) (find test ys) ≡ Some x → (has (y ∷ ys) x ≡ true) × (test x ≡ true)
+    go more true t e = let same : y ≡ x = same_Some _ _ e in (or_left (y == x) (has ys x) (eq-eqb y x same), subst (λ z. test z ≡ true) same t)
+    go more false t e = let m = more e in (or_right (y == x) (has ys x) m.0, m.1)
+found_some test [] x e = cc
+
+uneven_parts : (burst rest : ℕ) → ((burst == 0) && not (rest == 0)) ≡ true → (burst ≡ 0) × (rest ≡ 0 → ⊥)
+uneven_parts burst rest e = (grind arith, λ z. grind arith)
+
+-- the even arrivals of a rate length are not permitted where a fed link is uneven
+pub uneven_refused : (net : Network) → IsNetwork net → (l : ℕ) → uneven_link net ≡ Some l → ¬ IsPermitted net (even_periods net net.per)
+uneven_refused net ok l found permitted =
+    let there = found_some (λ l. is_uneven net.per (link_at net l)) (fed net) l found in
+    let here : has (link_numbers net) l ≡ true = filter_sub (λ l. is_fed (link_at net l)) (link_numbers net) l there.0 in
+    let parts = uneven_parts (link_at net l).burst ((link_at net l).rate % net.per) there.1 in
+    let keeps = at_in (λ l. KeepsTo net.per (link_at net l).burst (link_at net l).rate (counts_of net (even_periods net net.per) l)) l (fed net) there.0 permitted.windows in
+    let keeps' = subst (λ burst. KeepsTo net.per burst (link_at net l).rate (map (even_count net.per (link_at net l).rate) (numbers_to net.per))) parts.0 (subst (KeepsTo net.per (link_at net l).burst (link_at net l).rate) (counts_same net l here (numbers_to net.per)) keeps) in
+    parts.1 (uneven_exceeds net.per (link_at net l).rate ok.per keeps')

@@ -1,5 +1,5 @@
 -- What the stated calculations come to, where they exceed nothing.
-use Rattle.std.proofs.Common.{◌≡◌, ℕ, zero, suc, ◌+◌, ◌-◌, ◌*◌, ◌≤◌, Bool, true, false, cond, List, [], ◌∷◌, length, map, get_or, filter, sum_by, unsigned_abs, ℤ, pos, negsuc, ◌+ℤ◌, ◌-ℤ◌, ◌*ℤ◌, ◌≤ℤ◌, int_lt, Option, Some, None, option_map, All, arith, refl, ap, sym, ◌∙◌, subst}
+use Rattle.std.proofs.Common.{◌≡◌, ℕ, zero, suc, ◌-◌, ◌*◌, Bool, true, false, cond, List, [], ◌∷◌, length, map, get_or, sum_by, unsigned_abs, ℤ, pos, negsuc, ◌-ℤ◌, ◌*ℤ◌, ◌≤ℤ◌, int_lt, Option, Some, None, option_map, All, arith, refl, ap, sym, ◌∙◌, subst}
 use Rattle.std.specs.List.{AllByRecursion}
 use Rattle.std.specs.Int.{int_max}
 use Rattle.std.proofs.lemmas.Int.{ints}
@@ -16,7 +16,7 @@ use Rattle.mp_model.specs.Sums.{int_sum_by}
 use Rattle.mp_num.specs.Operations.{times, num, summed}
 use Rattle.mp_overload.proofs.Accounts.{on_trail}
 use Rattle.mp_overload.specs.Forming.{natural_entry, growth_formed, shared, counts_formed, split_formed, lost_formed, weighed, queues_formed, least_formed}
-use Rattle.mp_overload.specs.Growing.{growth, rated, lost_to_counts, lost_to_split, lost_to_rounding, weighed_queues, HasGrown}
+use Rattle.mp_overload.specs.Growing.{growth, rated, lost_to_counts, lost_to_split, lost_to_rounding, weighed_queues}
 use Rattle.mp_overload.specs.Laws.{FormsGrowth, IsFormed}
 use Rattle.mp_overload.specs.Trails.{IsOnTrail}
 

@@ -1,5 +1,5 @@
 -- What passes in a period, weighted by the weights of a vector, is at most the capacity.
-use Rattle.std.proofs.Common.{◌≡◌, ◌==◌, ℕ, zero, suc, ◌+◌, ◌-◌, ◌*◌, ◌≤◌, ◌<◌, min, Bool, true, false, cond, ◌&&◌, ◌||◌, nat_lt, List, [], ◌∷◌, length, get_or, map, sum_by, zip, pos, ◌-ℤ◌, ◌*ℤ◌, ◌≤ℤ◌, arith, refl, sym, ap, mul-le-mul_left, zero-le}
+use Rattle.std.proofs.Common.{◌≡◌, ℕ, zero, suc, ◌-◌, ◌*◌, ◌≤◌, min, Bool, true, false, cond, ◌&&◌, nat_lt, List, [], ◌∷◌, get_or, map, sum_by, zip, pos, ◌-ℤ◌, ◌*ℤ◌, ◌≤ℤ◌, arith, refl, mul-le-mul_left, zero-le}
 use Rattle.std.proofs.lemmas.Int.{ints}
 use Rattle.std.specs.List.{list_any}
 use Rattle.std.proofs.lemmas.List.Sums.{sum_by-cons}
@@ -7,8 +7,8 @@ use Rattle.mp_laws.proofs.Distinct.{shared_le, range_distinct}
 use Rattle.mp_laws.proofs.Sums.{sum_by-le, sum_by-swap, one_of}
 use Rattle.mp_laws.proofs.Signed.{mul_le}
 use Rattle.mp_model.specs.Load.{greatest, junction_capacity, capacity}
-use Rattle.mp_model.specs.Network.{Network, Junction, movement_numbers, share_of, flow_of, has, stage_at}
-use Rattle.mp_model.specs.Pressure.{queued_downstream, weight, positive_weight, pressure}
+use Rattle.mp_model.specs.Network.{Network, Junction, movement_numbers, flow_of, has, stage_at}
+use Rattle.mp_model.specs.Pressure.{queued_downstream, positive_weight, pressure}
 use Rattle.mp_model.specs.Step.{has_green, passed}
 use Rattle.mp_model.specs.Sums.{int_sum_by}
 use Rattle.mp_overload.specs.Laws.{PassesWithin}

@@ -1,5 +1,5 @@
 -- Arrivals that come as evenly as whole vehicles can.
-use Rattle.std.specs.Prelude.{◌==◌, ℕ, ◌+◌, ◌-◌, ◌*◌, ◌/◌, ◌%◌, Bool, ◌&&◌, not, List, map, find, Option}
+use Rattle.std.specs.Prelude.{◌==◌, ℕ, ◌-◌, ◌*◌, ◌/◌, ◌%◌, Bool, ◌&&◌, not, List, map, find, Option}
 use Rattle.mp_model.specs.Network.{Network, Link, link_at, fed, numbers_to}
 
 -- By the end of period t as many vehicles have come as the rate allows in t periods, rounded down.

@@ -10,11 +10,15 @@ use Rattle.mp_model.specs.Sums.{int_sum_by}
 use Rattle.mp_overload.specs.Evens.{even_periods, uneven_link}
 use Rattle.mp_overload.specs.Growing.{growth, lost_to_rounding, weighed_queues, HasGrown}
 use Rattle.mp_overload.specs.Forming.{natural_entry, growth_formed, lost_formed, queues_formed, least_formed}
-use Rattle.mp_overload.specs.Trails.{trail, IsOnTrail}
+use Rattle.mp_overload.specs.Trails.{trail, even_run, IsOnTrail}
 
 -- Where no fed link is uneven, even arrivals are permitted, in however many periods.
 abbrev pub EvenLaw : Type 0
 EvenLaw = (net : Network) → IsNetwork net → uneven_link net ≡ None → (T : ℕ) → IsPermitted net (even_periods net T)
+
+-- Where a fed link is uneven, the even arrivals of a rate length are not permitted.
+abbrev pub UnevenLaw : Type 0
+UnevenLaw = (net : Network) → IsNetwork net → (l : ℕ) → uneven_link net ≡ Some l → ¬ IsPermitted net (even_periods net net.per)
 
 -- What passes in a period, weighted by the weights of a vector, sums to at most the capacity.
 pub record PassesWithin (net : Network) (stages : List ℕ) (q p : ℕ → ℕ) : Type 0 where
@@ -53,3 +57,12 @@ pub record IsFormed (net : Network) (p : List ℤ) (state : State) (per lost sum
 -- In each state on a trail the weighed queues that are formed are at least the least that is formed.
 abbrev pub LeastLaw : Type 0
 LeastLaw = (net : Network) → IsNetwork net → (p : List ℤ) → All (λ x. pos 0 ≤ℤ x) p → (state : State) → IsOnTrail net state → (per lost sum least : ℤ) → IsFormed net p state per lost sum least → least ≤ℤ sum
+
+-- The state of a run over T periods of even arrivals is on a trail, that of the greatest stages, and T periods old.
+pub record IsOnTrailAt (net : Network) (T : ℕ) (state : State) : Type 0 where
+  pub on : IsOnTrail net state
+  pub period : state.period ≡ T
+
+-- This holds of every number of periods.
+abbrev pub RunLaw : Type 0
+RunLaw = (net : Network) (T : ℕ) → IsOnTrailAt net T (even_run net T)

@@ -3,3 +3,4 @@ pub mod Trails
 pub mod Growing
 pub mod Forming
 pub mod Laws
+pub mod Cases

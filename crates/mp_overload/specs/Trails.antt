@@ -2,9 +2,9 @@
 use Rattle.std.specs.Prelude.{◌≡◌, ℕ, ◌+◌, List, [], ◌∷◌}
 use Rattle.mp_model.specs.Arrivals.{arrivals_of}
 use Rattle.mp_model.specs.Network.{Network}
-use Rattle.mp_model.specs.Run.{opening}
+use Rattle.mp_model.specs.Run.{opening, state_after}
 use Rattle.mp_model.specs.Step.{State, step}
-use Rattle.mp_overload.specs.Evens.{even_arrivals}
+use Rattle.mp_overload.specs.Evens.{even_arrivals, even_periods}
 
 -- This is the state after a period with even arrivals in which the junctions show these stages.
 abbrev pub trail_period : Network → List ℕ → State → State
@@ -22,3 +22,7 @@ trail net choices = trail_from net (opening net) choices
 -- A state is on a trail where some choices lead to it.
 abbrev pub IsOnTrail : Network → State → Type 0
 IsOnTrail net state = (choices : List (List ℕ)) × (state ≡ trail net choices)
+
+-- This is the state of the run over T periods of even arrivals, in which the junctions show the greatest stages.
+abbrev pub even_run : Network → ℕ → State
+even_run net T = state_after net (opening net) (even_periods net T)
