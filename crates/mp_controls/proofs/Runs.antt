@@ -23,7 +23,7 @@ use Rattle.mp_controls.proofs.Burst.{one_more}
 use Rattle.std.proofs.lemmas.Bool.{cases_lt}
 use Rattle.std.proofs.Math.Nat.{le-div_iff_mul-le}
 use Rattle.mp_model.specs.EventCore.{Event, core_opening, core_after, closed_of}
-use Rattle.mp_laws.proofs.Order.{order}
+use Rattle.mp_laws.proofs.PromptOrder.{prompt_order}
 use Rattle.mp_laws.proofs.Levels.{windows_kept}
 use Rattle.mp_controls.specs.Closer.{value_of, closer_drift, AreCloserBounds, RunStays}
 use Rattle.mp_controls.proofs.Below.{below, some_ones}
@@ -135,10 +135,10 @@ last_of_run net Holds [] state h = h.0
 last_of_run net Holds (counts ∷ A) state h = last_of_run net Holds A (advance net counts state) h.1
 
 -- and so each queue of the core
-pub core_one_lower : (net : Network) → IsNetwork net → StartsEmpty net → HasBurst net → 3 ≤ length net.movements → (cert : Cert) → Certifies net cert → (E D : ℕ) → IsSlack cert E D → (bounds : List ℕ) → AreBounds net E D bounds → (es : List Event) → AllByRecursion (HasCounts net) (closed_of net (core_opening net) es) →
+pub core_one_lower : (net : Network) → IsNetwork net → net.delay ≡ 0 → StartsEmpty net → HasBurst net → 3 ≤ length net.movements → (cert : Cert) → Certifies net cert → (E D : ℕ) → IsSlack cert E D → (bounds : List ℕ) → AreBounds net E D bounds → (es : List Event) → AllByRecursion (HasCounts net) (closed_of net (core_opening net) es) →
     AllByRecursion (λ k. entry (core_after net (core_opening net) es).queues k + 1 ≤ entry bounds k) (movement_numbers net)
-core_one_lower net ok empty burst three cert c E D slack bounds are es counts =
-    subst (λ Q. AllByRecursion (λ k. entry Q k + 1 ≤ entry bounds k) (movement_numbers net)) (sym (order net ok es).queues)
+core_one_lower net ok prompt empty burst three cert c E D slack bounds are es counts =
+    subst (λ Q. AllByRecursion (λ k. entry Q k + 1 ≤ entry bounds k) (movement_numbers net)) (sym (prompt_order net ok prompt es).queues)
     (last_of_run net (λ state. AllByRecursion (λ k. queue state k + 1 ≤ entry bounds k) (movement_numbers net)) (closed_of net (core_opening net) es) (opening net)
     (one_lower net ok empty burst three cert c E D slack bounds are (closed_of net (core_opening net) es) (record { counts = counts; windows = windows_kept net es })))
 

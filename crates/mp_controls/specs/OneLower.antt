@@ -29,9 +29,9 @@ OneLowerLaw = BurstStaysLower 1
 abbrev pub NotFourLower : Type 0
 NotFourLower = ¬ BurstStaysLower 4
 
--- In such a network, after any events that closed lists of one count per fed link, each queue of the core is at least 1 below its bound.
+-- In such a network with a delay of 0, after any events that closed lists of one count per fed link, each queue of the core is at least 1 below its bound.
 abbrev pub CoreOneLowerLaw : Type 0
-CoreOneLowerLaw = (net : Network) → IsNetwork net → StartsEmpty net → HasBurst net → 3 ≤ length net.movements → (cert : Cert) → Certifies net cert → (E D : ℕ) → IsSlack cert E D → (bounds : List ℕ) → AreBounds net E D bounds → (es : List Event) → AllByRecursion (HasCounts net) (closed_of net (core_opening net) es) →
+CoreOneLowerLaw = (net : Network) → IsNetwork net → net.delay ≡ 0 → StartsEmpty net → HasBurst net → 3 ≤ length net.movements → (cert : Cert) → Certifies net cert → (E D : ℕ) → IsSlack cert E D → (bounds : List ℕ) → AreBounds net E D bounds → (es : List Event) → AllByRecursion (HasCounts net) (closed_of net (core_opening net) es) →
     AllByRecursion (λ k. entry (core_after net (core_opening net) es).queues k + 1 ≤ entry bounds k) (movement_numbers net)
 
 -- Three approaches meet the premises of both: they have a certificate of slack 5/12, bounds of 40, a burst and three movements.

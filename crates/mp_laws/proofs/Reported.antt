@@ -50,7 +50,7 @@ one_or_other P true x y p q = p
 one_or_other P false x y p q = q
 
 -- a fact of each age, and of 0, holds of the age of each link
-age_is : (P : ℕ → Type 0) → P 0 → (ls ages : List ℕ) (l : ℕ) → AllByRecursion P ages → P (count_in ls ages l)
+pub age_is : (P : ℕ → Type 0) → P 0 → (ls ages : List ℕ) (l : ℕ) → AllByRecursion P ages → P (count_in ls ages l)
 age_is P z [] ages l h = z
 age_is P z (f ∷ fs) [] l h = z
 age_is P z (f ∷ fs) (a ∷ ages) l h = one_or_other P (f == l) a (count_in fs ages l) h.0 (age_is P z fs ages l h.1)
@@ -137,6 +137,23 @@ prompt_stage net history j =
 prompt_stages : (net : Network) (history : History) (js : List Junction) → map (λ p. reported_stage net history p.0 p.1) (zip js (map (ages_of_now net) js)) ≡ map (greatest_stage net (queue history.now)) js
 prompt_stages net history [] = refl
 prompt_stages net history (j ∷ js) = ap₂ ◌∷◌ (prompt_stage net history j) (prompt_stages net history js)
+
+-- ages that are all 0 take the greatest stages
+zero_stage : (net : Network) (history : History) (j : Junction) (ages : List ℕ) → AllByRecursion (λ (n : ℕ). n ≡ 0) ages → reported_stage net history j ages ≡ greatest_stage net (queue history.now) j
+zero_stage net history j ages zeros =
+    let q = queue history.now in
+    let r = reported_queue net history j ages in
+    first_agree (λ s. pos (pressure_by net q r (stage_at j s))) (λ s. pos (pressure net q (stage_at j s))) (numbers_to (length j.stages))
+    (all_of (λ s. pos (pressure_by net q r (stage_at j s)) ≡ pos (pressure net q (stage_at j s)))
+    (λ s. ap pos (sum_by-same (λ k. flow_of net k * positive_weight_by net q r k) (λ k. flow_of net k * positive_weight net q k)
+    (λ k. ap (λ n. flow_of net k * (net.shares * q k - n)) (sum_by-same (λ i. share_of net i * r i) (λ i. share_of net i * q i)
+    (λ i. ap (λ n. share_of net i * n) (ap (λ age. queue (state_ago history age) i) (age_is (λ (n : ℕ). n ≡ 0) refl (targets net j) ages (from_of net i) zeros))) (downstream net k))) (stage_at j s))) (numbers_to (length j.stages)))
+
+pub zero_stages : (net : Network) (history : History) (js : List Junction) (ages : List (List ℕ)) → length ages ≡ length js → AllByRecursion (AllByRecursion (λ (n : ℕ). n ≡ 0)) ages → map (λ p. reported_stage net history p.0 p.1) (zip js ages) ≡ map (greatest_stage net (queue history.now)) js
+zero_stages net history [] [] same zeros = refl
+zero_stages net history [] (a ∷ ages) same zeros = absurd (omega arith)
+zero_stages net history (j ∷ js) [] same zeros = absurd (omega arith)
+zero_stages net history (j ∷ js) (a ∷ ages) same zeros = ap₂ ◌∷◌ (zero_stage net history j a zeros.0) (zero_stages net history js ages (omega arith) zeros.1)
 
 prompt_run : (net : Network) (A : List (List ℕ)) (history : History) → reported_run_from net history (map (prompt_period net) A) ≡ run_from net history.now A
 prompt_run net [] history = refl

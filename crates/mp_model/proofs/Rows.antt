@@ -11,10 +11,11 @@ use Rattle.mp_model.specs.Load.{load, capacity, ShowsOverload, IsTight}
 use Rattle.mp_model.specs.Bounds.{credit_term, step_term, drift_constant, queue_threshold, greatest_drift, AreBounds}
 use Rattle.mp_model.specs.Log.{log_text, plain_log_text}
 use Rattle.mp_model.specs.EventCore.{Event, Answer, Core, core_opening, core_after, apply}
-use Rattle.mp_model.specs.EventCore.Event.{close}
-use Rattle.mp_model.specs.EventCore.Answer.{heard, not_adjacent, chose, unheard, undecided, above_at, closed}
+use Rattle.mp_model.specs.EventCore.Event.{hear, decide, close}
+use Rattle.mp_model.specs.EventPeriods.{periods_of}
+use Rattle.mp_model.specs.EventCore.Answer.{heard, not_adjacent, chose, stale, undecided, above_at, closed}
 use Rattle.mp_model.specs.Stream.{LineKind, kinds, line_events, arrivals_of_kinds}
-use Rattle.mp_model.specs.Worked.{two_approaches, two_approaches_at, tandem, fed_tandem, roundabout}
+use Rattle.mp_model.specs.Worked.{delayed_merge, two_approaches, two_approaches_at, tandem, fed_tandem, roundabout}
 
 abbrev one_to_two : List ℕ
 one_to_two = 1 ∷ 2 ∷ []
@@ -233,9 +234,9 @@ round_answers = refl
 round_core : (core_of roundabout (core_opening roundabout) (kinds roundabout (codes "1\n0\n"))).queues ≡ 0 ∷ 1 ∷ []
 round_core = refl
 
--- junctions may hear and decide in any order, but not decide unheard or hear what is not theirs
-unheard_answers : stream_answers tandem (codes "decide 1\n") ≡ (unheard 1 2 ∷ []) ∷ []
-unheard_answers = refl
+-- junctions may hear and decide in any order, but not decide by stale copies or hear what is not theirs
+stale_answers : stream_answers tandem (codes "decide 1\n") ≡ (stale 1 2 ∷ []) ∷ []
+stale_answers = refl
 
 apart_answers : stream_answers tandem (codes "hear 2 1\n") ≡ (not_adjacent 2 1 ∷ []) ∷ []
 apart_answers = refl
@@ -251,3 +252,35 @@ one_line_answers = refl
 
 undecided_answer : (apply tandem (core_opening tandem) (close (1 ∷ []))).0 ≡ undecided 1
 undecided_answer = refl
+
+-- with a delay of 1 the first junction decides in period 2 by what it heard in period 1, and so holds back what it need not
+merge_core : Network → List ℕ → Core
+merge_core net text = core_of net (core_opening net) (kinds net text)
+
+old_reports : (merge_core delayed_merge (codes "1,1,3\n0,0,0\n0,0,0\n")).queues ≡ 1 ∷ 0 ∷ 1 ∷ []
+unfolding merge_core
+old_reports = refl
+
+old_report_stages : (merge_core delayed_merge (codes "1,1,3\n0,0,0\n")).last ≡ 1 ∷ 1 ∷ []
+unfolding merge_core
+old_report_stages = refl
+
+-- hearing anew it decides otherwise
+new_report : (merge_core delayed_merge (codes "1,1,3\nhear 1 3\n0,0,0\n")).last ≡ 2 ∷ 1 ∷ []
+unfolding merge_core
+new_report = refl
+
+new_report_queues : (merge_core delayed_merge (codes "1,1,3\nhear 1 3\n0,0,0\n")).queues ≡ 1 ∷ 0 ∷ 2 ∷ []
+unfolding merge_core
+new_report_queues = refl
+
+-- the ages of the copies by which the junctions decided
+abbrev merge_events : List Event
+merge_events = hear 1 3 ∷ decide 1 ∷ decide 2 ∷ close (1 ∷ 1 ∷ 3 ∷ []) ∷ decide 1 ∷ decide 2 ∷ close (0 ∷ 0 ∷ 0 ∷ []) ∷ decide 1 ∷ []
+
+merge_ages : map (λ period. period.ages) (periods_of delayed_merge merge_events) ≡ ((0 ∷ []) ∷ [] ∷ []) ∷ ((1 ∷ []) ∷ [] ∷ []) ∷ []
+merge_ages = refl
+
+-- a copy that is two periods old is stale
+merge_stale : (apply delayed_merge (core_after delayed_merge (core_opening delayed_merge) merge_events) (decide 1)).0 ≡ stale 1 3
+merge_stale = refl
