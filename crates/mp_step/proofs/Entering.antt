@@ -5,7 +5,7 @@ use Rattle.std.proofs.lemmas.Bool.{cases_lt}
 use Rattle.std.specs.List.{AllByRecursion, range_with_len}
 use Rattle.std.proofs.lemmas.List.Sums.{sum_by-cons}
 use Rattle.mp_model.specs.Arrivals.{arrivals_of}
-use Rattle.mp_model.specs.Network.{Network, link_numbers, link_at, movement_at, no_link, no_movement, start_of, has}
+use Rattle.mp_model.specs.Network.{Network, link_numbers, link_at, no_link, no_movement, start_of}
 use Rattle.mp_model.specs.NetworkRules.{IsNetwork, IsInRange}
 use Rattle.mp_laws.proofs.Changes.{few_arrive}
 use Rattle.mp_laws.proofs.Lists.{at_in, at_index, each_in}

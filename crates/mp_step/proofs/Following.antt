@@ -4,74 +4,73 @@ use Rattle.std.specs.List.{AllByRecursion, range_with_len}
 use Rattle.std.proofs.Math.Nat.{mod-add-mod, zero-mod}
 use Rattle.std.proofs.lemmas.List.{length-map, length-replicate}
 use Rattle.std.proofs.lemmas.List.FromFn.{length-range_with_len}
-use Rattle.std.proofs.lemmas.List.Sums.{sum-map, sum_by-cons}
+use Rattle.std.proofs.lemmas.List.Sums.{sum-map}
 use Rattle.mp_model.specs.Network.{Network, movement_numbers, link_numbers, link_at, numbers_to, from_of, start_of, entry}
 use Rattle.mp_model.specs.NetworkRules.{IsNetwork, IsInRange}
 use Rattle.mp_model.specs.Arrivals.{arrivals_of}
-use Rattle.mp_model.specs.Step.{State, queue, received_by, passed, got, new_queue, departing, step}
+use Rattle.mp_model.specs.Step.{State, received_by, got_by, new_queue, departing_by, step_by}
 use Rattle.mp_model.specs.Run.{opening}
 use Rattle.mp_laws.proofs.Lists.{at_in, each_in}
 use Rattle.mp_laws.proofs.Lists.{numbered}
 use Rattle.mp_laws.proofs.Order.{joined_same, map-same}
-use Rattle.mp_laws.proofs.Conserved.{step_conserves}
 use Rattle.mp_press.specs.Queues.{naturals, NoneNegative}
 use Rattle.mp_press.proofs.Writes.{numbers_by_all}
 use Rattle.mp_feed.specs.Fill.{Fill}
 use Rattle.mp_step.proofs.Stages.{get_or-replicate}
 use Rattle.mp_step.proofs.Above.{then_within}
+use Rattle.mp_step.proofs.Conserving.{passing_conserves}
 use Rattle.mp_step.proofs.Entering.{enter_few}
 use Rattle.mp_step.specs.BucketLevels.{level_then, first_above, buckets_of}
-use Rattle.mp_step.specs.Standing.{Standing, splits_of, IsOn, Stands, as_state, closed}
+use Rattle.mp_step.specs.OpenStep.{closed_by, ArePasses}
+use Rattle.mp_step.specs.Standing.{Standing, splits_of, IsOn, Stands, as_state}
 
 pub map-map : (f g : ℕ → ℕ) (xs : List ℕ) → map f (map g xs) ≡ map (λ x. f (g x)) xs
 map-map f g [] = refl
 map-map f g (x ∷ xs) = ap (λ ys. f (g x) ∷ ys) (map-map f g xs)
 
 -- the phase of a link after a period
-phase_after : (net : Network) (st : Standing) (stages counts : List ℕ) → AllByRecursion (λ l. entry (closed net st stages counts).phases l ≡ (entry st.phases l + got net stages (entry st.queues) (arrivals_of net counts) l) % net.shares) (link_numbers net)
-phase_after net st stages counts =
-    let r : ℕ → ℕ = λ l. entry st.phases l + got net stages (entry st.queues) (arrivals_of net counts) l in
+phase_after : (net : Network) (st : Standing) (y : ℕ → ℕ) (counts : List ℕ) → AllByRecursion (λ l. entry (closed_by net st y counts).phases l ≡ (entry st.phases l + got_by net y (arrivals_of net counts) l) % net.shares) (link_numbers net)
+phase_after net st y counts =
+    let r : ℕ → ℕ = λ l. entry st.phases l + got_by net y (arrivals_of net counts) l in
     each_in _ (link_numbers net) (λ l h. ap (λ ps. entry ps l) (map-map (λ n. n % net.shares) r (link_numbers net)) ∙ numbered (λ l. r l % net.shares) (length net.links) l h)
 
-pub stands_after : (net : Network) → IsNetwork net → (st : Standing) (stages counts : List ℕ) (state : State) → Stands net st state → Stands net (closed net st stages counts) (step net stages (arrivals_of net counts) state)
-stands_after net ok st stages counts state s =
+pub stands_after : (net : Network) → IsNetwork net → (st : Standing) (y : ℕ → ℕ) (counts : List ℕ) (state : State) → Stands net st state → Stands net (closed_by net st y counts) (step_by net y (arrivals_of net counts) state)
+stands_after net ok st y counts state s =
     let a = arrivals_of net counts in
-    let y : ℕ → ℕ = passed net stages (entry st.queues) in
-    let r : ℕ → ℕ = got net stages (entry st.queues) a in
+    let r : ℕ → ℕ = got_by net y a in
     record {
       queues =
           map-same (λ k. new_queue net (entry st.queues k) (y k) (entry st.phases (from_of net k)) (r (from_of net k)) k) (λ k. new_queue net (entry st.queues k) (y k) (received_by state (from_of net k)) (r (from_of net k)) k) (movement_numbers net)
           (each_in _ (movement_numbers net) (λ k h. ap (λ n. entry st.queues k - y k + n) (joined_same net ok (entry st.phases) (received_by state) r s.phases k h)))
-          ∙ ap (λ q. map (λ k. new_queue net (entry q k) (passed net stages (entry q) k) (received_by state (from_of net k)) (got net stages (entry q) a (from_of net k)) k) (movement_numbers net)) s.queues;
+          ∙ ap (λ q. map (λ k. new_queue net (entry q k) (y k) (received_by state (from_of net k)) (r (from_of net k)) k) (movement_numbers net)) s.queues;
       phases = each_in _ (link_numbers net) (λ l h.
-          at_in (λ l. entry (closed net st stages counts).phases l ≡ (entry st.phases l + r l) % net.shares) l (link_numbers net) h (phase_after net st stages counts)
+          at_in (λ l. entry (closed_by net st y counts).phases l ≡ (entry st.phases l + r l) % net.shares) l (link_numbers net) h (phase_after net st y counts)
           ∙ ap (λ p. (p + r l) % net.shares) (at_in (λ l. entry st.phases l ≡ received_by state l % net.shares) l (link_numbers net) h s.phases)
           ∙ mod-add-mod (received_by state l) net.shares (r l)
-          ∙ ap (λ q. (received_by state l + got net stages (entry q) a l) % net.shares) s.queues
-          ∙ ap (λ n. n % net.shares) (sym (numbered (λ l. received_by state l + got net stages (queue state) a l) (length net.links) l h)));
+          ∙ ap (λ n. n % net.shares) (sym (numbered (λ l. received_by state l + r l) (length net.links) l h)));
       period = ap (λ n. n + 1) s.period;
       total_in = ap (λ n. n + sum_by a (link_numbers net)) s.total_in;
-      total_out = ap (λ n. n + departing net stages (entry st.queues)) s.total_out ∙ ap (λ q. state.total_out + departing net stages (entry q)) s.queues;
+      total_out = ap (λ n. n + departing_by net y) s.total_out;
     }
 
 below : (n w : ℕ) → 1 ≤ w → n % w < w
 below n w h = omega arith
 
-queues_after : (net : Network) (st : Standing) (stages counts : List ℕ) → length (closed net st stages counts).queues ≡ length net.movements
-queues_after net st stages counts = length-map (movement_numbers net) _ ∙ length-range_with_len 1 (length net.movements)
+queues_after : (net : Network) (st : Standing) (y : ℕ → ℕ) (counts : List ℕ) → length (closed_by net st y counts).queues ≡ length net.movements
+queues_after net st y counts = length-map (movement_numbers net) _ ∙ length-range_with_len 1 (length net.movements)
 
-pub on_after : (net : Network) → IsNetwork net → IsInRange net → (st : Standing) (stages counts : List ℕ) → IsOn net st → first_above net (entry st.levels) counts ≡ None → IsOn net (closed net st stages counts)
-on_after net ok range st stages counts on none =
-    let r : ℕ → ℕ = λ l. entry st.phases l + got net stages (entry st.queues) (arrivals_of net counts) l in
+pub on_after : (net : Network) → IsNetwork net → IsInRange net → (st : Standing) (y : ℕ → ℕ) (counts : List ℕ) → IsOn net st → first_above net (entry st.levels) counts ≡ None → IsOn net (closed_by net st y counts)
+on_after net ok range st y counts on none =
+    let r : ℕ → ℕ = λ l. entry st.phases l + got_by net y (arrivals_of net counts) l in
     record {
-      queues = queues_after net st stages counts;
+      queues = queues_after net st y counts;
       phases = length-map (map r (link_numbers net)) (λ n. n % net.shares) ∙ length-map (link_numbers net) r ∙ length-range_with_len 1 (length net.links);
-      phase_in = each_in (λ l. entry (closed net st stages counts).phases l < net.shares) (link_numbers net) (λ l h.
-          let e = at_in (λ l. entry (closed net st stages counts).phases l ≡ r l % net.shares) l (link_numbers net) h (phase_after net st stages counts) in
+      phase_in = each_in (λ l. entry (closed_by net st y counts).phases l < net.shares) (link_numbers net) (λ l h.
+          let e = at_in (λ l. entry (closed_by net st y counts).phases l ≡ r l % net.shares) l (link_numbers net) h (phase_after net st y counts) in
           let b = below (r l) net.shares ok.shares in
           omega arith);
       levels = length-map (link_numbers net) (level_then net (entry st.levels) counts) ∙ length-range_with_len 1 (length net.links);
-      within = each_in (λ l. entry (closed net st stages counts).levels l ≤ net.per * (link_at net l).burst) (link_numbers net) (λ l h.
+      within = each_in (λ l. entry (closed_by net st y counts).levels l ≤ net.per * (link_at net l).burst) (link_numbers net) (λ l h.
           subst (λ n. n ≤ net.per * (link_at net l).burst) (sym (numbered (level_then net (entry st.levels) counts) (length net.links) l h))
           (at_in (λ l. level_then net (entry st.levels) counts l ≤ net.per * (link_at net l).burst) l (link_numbers net) h (then_within net (entry st.levels) counts on.within none)));
       few = omega (arith, on.few, enter_few net ok range (entry st.levels) counts on.within none);
@@ -83,15 +82,15 @@ sum_numbers : (xs : List ℕ) (n : ℕ) → length xs ≡ n → sum_by (entry xs
 sum_numbers xs n size = sym (sum-map (entry xs) (numbers_to n)) ∙ ap sum (sym (numbers_by_all (entry xs) xs n size (λ k h l. refl)))
 
 -- what entered has departed or is queued, after a period as before
-pub closed_conserves : (net : Network) → IsNetwork net → (st : Standing) (stages counts : List ℕ) → IsOn net st → st.total_in ≡ st.total_out + sum st.queues →
-    (closed net st stages counts).total_in ≡ (closed net st stages counts).total_out + sum (closed net st stages counts).queues
-closed_conserves net ok st stages counts on before =
-    let after = closed net st stages counts in
+pub closed_conserves : (net : Network) → IsNetwork net → (st : Standing) (y : ℕ → ℕ) (counts : List ℕ) → IsOn net st → ArePasses net (entry st.queues) y → st.total_in ≡ st.total_out + sum st.queues →
+    (closed_by net st y counts).total_in ≡ (closed_by net st y counts).total_out + sum (closed_by net st y counts).queues
+closed_conserves net ok st y counts on passes before =
+    let after = closed_by net st y counts in
     let m = length net.movements in
     omega (
       arith,
-      step_conserves net ok stages (arrivals_of net counts) (as_state st) (omega (arith, sum_numbers st.queues m on.queues)),
-      sum_numbers after.queues m (queues_after net st stages counts),
+      passing_conserves net ok y (arrivals_of net counts) (as_state st) passes (omega (arith, sum_numbers st.queues m on.queues)),
+      sum_numbers after.queues m (queues_after net st y counts),
     )
 
 -- a list of zeros has 0 at each number

@@ -4,5 +4,7 @@ pub mod Signs
 pub mod Above
 pub mod Entering
 pub mod Taking
+pub mod SamePasses
+pub mod Conserving
 pub mod Closing
 pub mod Following

@@ -1,5 +1,7 @@
 pub mod BucketLevels
 pub mod Standing
+pub mod OpenStep
 pub mod Settled
+pub mod TrafficView
 pub mod StateView
 pub mod Taken

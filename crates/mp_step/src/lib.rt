@@ -1,10 +1,13 @@
 //! Where a run stands, and one period of it.
 #![tactic(auto)]
 
+mod laws;
 mod levels;
 mod moving;
 mod passing;
 mod starts;
 mod state;
+mod traffic;
 
+pub use laws::{closed_open_law, open_step_law};
 pub use state::{AboveAt, State};

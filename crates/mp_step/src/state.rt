@@ -8,19 +8,19 @@ ghost use Rattle.mp_model.specs.declared.limits.TheConstants.{MOST_LINES};
 ghost use Rattle.mp_laws.specs.Buckets.{IsFirstAbove};
 ghost use Rattle.mp_press.specs.Queues.{naturals, AreCounts};
 ghost use Rattle.mp_step.specs.BucketLevels.{first_above, IsRoom};
+ghost use Rattle.mp_step.specs.OpenStep.{closed_open, open_step};
 ghost use Rattle.mp_step.specs.Standing.{Stands, IsOn, closed, shares_in, splits_of};
 ghost use Rattle.mp_step.specs.Taken.{HasTaken};
 
-use crate::levels::{levels_after, make_buckets, room_at};
-use crate::moving::move_all;
-use crate::passing::{departed, serve_all};
+use crate::levels::{make_buckets, room_at};
+use crate::passing::{serve_all, serve_open};
 use crate::starts::{start_queues, started};
-use mp_feed::{Bucket, NoMemory, Splitter};
+use crate::traffic::{Traffic, advance};
+use mp_feed::{NoMemory, Splitter};
 use mp_net::{LinkNo, MovementNo, Net, StageNo};
 use mp_press::queue_of;
 use std::alloc::{AllocError, Global};
 use std::marker::Model;
-use std::mem;
 
 /// The arrivals of a period would put this link above its bucket, and no link of lower number.
 #[derive(Clone, Copy, Debug, PartialEq, Eq)]
@@ -28,28 +28,11 @@ pub struct AboveAt {
     pub link: LinkNo,
 }
 
-/// Where a run stands: the queue of each movement, the phase and the bucket level of each link, the
-/// period, and how many vehicles entered and departed.
-///
-/// A period writes the next queues, phases and levels beside those of now, and then swaps them, so it
-/// takes no memory: all buffers are made at the opening. A refused period doesn't swap.
+/// Where a run stands: the traffic on the network, and room for what each movement passes.
 #[derive(Drop)]
 pub struct State {
-    period: u64,
-    queues: Vec<i128>,
-    next_queues: Vec<i128>,
-    phases: Vec<u32>,
-    next_phases: Vec<u32>,
-    levels: Vec<u64>,
-    next_levels: Vec<u64>,
-    total_in: u128,
-    total_out: u128,
-    splits: Vec<Splitter>,
-    // The empty bucket of each link; its level stands in `levels`.
-    buckets: Vec<Bucket>,
-    // What each movement passes, and how what a link received is split.
+    traffic: Traffic,
     passes: Vec<u32>,
-    parts: Vec<u64>,
 }
 
 impl Model for State {
@@ -75,7 +58,7 @@ impl State {
         let _ = net.shares();
         let movements = usize::from(net.movements());
         let links = usize::from(net.links());
-        Ok(State {
+        let traffic = Traffic {
             period: 0,
             queues: start_queues(alloc, net)?,
             next_queues: vec![in alloc; 0i128; movements]?,
@@ -87,9 +70,10 @@ impl State {
             total_out: 0,
             splits: make_splits(alloc, net)?,
             buckets: make_buckets(alloc, net)?,
-            passes: vec![in alloc; 0u32; movements]?,
             parts: vec![in alloc; 0u64; movements]?,
-        })
+        };
+        let passes = vec![in alloc; 0u32; movements]?;
+        Ok(State { traffic, passes })
     }
 
     /// The queue of the movement, in vehicles.
@@ -97,7 +81,7 @@ impl State {
         requires { (1 ≤ k) × (k ≤ length self.now.queues) }
         ensures { result ≡ pos (entry self.now.queues k) }
     {
-        queue_of(&self.queues, k) as i128
+        queue_of(&self.traffic.queues, k) as i128
     }
 
     /// The queues, one per movement.
@@ -107,7 +91,7 @@ impl State {
         ensures counts { AreCounts result.now }
         ensures few { All (λ q. q ≤ 2 ^ 85) self.now.queues }
     {
-        &self.queues
+        &self.traffic.queues
     }
 
     /// The number of periods so far.
@@ -115,7 +99,7 @@ impl State {
         ensures value { result ≡ self.now.period }
         ensures few { result ≤ MOST_LINES }
     {
-        self.period
+        self.traffic.period
     }
 
     /// How many vehicles entered: as many as departed and are queued.
@@ -124,7 +108,7 @@ impl State {
         ensures conserved { self.now.total_in ≡ self.now.total_out + sum self.now.queues }
         ensures few { result ≤ 2 ^ 85 }
     {
-        self.total_in
+        self.traffic.total_in
     }
 
     /// How many vehicles departed.
@@ -133,7 +117,23 @@ impl State {
         ensures conserved { self.now.total_in ≡ self.now.total_out + sum self.now.queues }
         ensures few { result ≤ 2 ^ 85 }
     {
-        self.total_out
+        self.traffic.total_out
+    }
+
+    /// The phase of the link: how many vehicles it received, modulo the share total.
+    pub fn phase(&self, l: LinkNo) -> u32
+        requires { (1 ≤ l) × (l ≤ length self.now.phases) }
+        ensures { result ≡ entry self.now.phases l }
+    {
+        self.traffic.phases[usize::from(l) - 1]
+    }
+
+    /// The bucket level of the link, in vehicles times the rate length; it is 0 where the link is not fed.
+    pub fn level(&self, l: LinkNo) -> u64
+        requires { (1 ≤ l) × (l ≤ length self.now.levels) }
+        ensures { result ≡ entry self.now.levels l }
+    {
+        self.traffic.levels[usize::from(l) - 1]
     }
 
     /// The greatest count of arrivals that the bucket of the link takes in the next period.
@@ -141,7 +141,11 @@ impl State {
         requires { (1 ≤ l) × (l ≤ length self.now.levels) }
         ensures { (net : Network) → IsOn net self.now → IsRoom net (entry self.now.levels) l result }
     {
-        room_at(&self.buckets, &self.levels, usize::from(l) - 1)
+        room_at(
+            &self.traffic.buckets,
+            &self.traffic.levels,
+            usize::from(l) - 1,
+        )
     }
 
     /// One period in which the junctions show these stages, one per junction, and these many vehicles
@@ -170,35 +174,42 @@ impl State {
         ensures on { IsOn net.now self.new }
     {
         let _ = net.shares();
-        if let Some(link) = levels_after(
-            net,
-            &self.buckets,
-            &self.levels,
-            arrivals,
-            &mut self.next_levels,
-        ) {
-            return Err(AboveAt { link });
-        }
-        serve_all(net, stages, &self.queues, &mut self.passes);
-        let came = move_all(
-            net,
-            &self.splits,
-            arrivals,
-            &self.phases,
-            &self.queues,
-            &self.passes,
-            &mut self.parts,
-            &mut self.next_queues,
-            &mut self.next_phases,
-        );
-        let left = departed(net, &self.passes);
-        mem::swap(&mut self.queues, &mut self.next_queues);
-        mem::swap(&mut self.phases, &mut self.next_phases);
-        mem::swap(&mut self.levels, &mut self.next_levels);
-        self.period += 1;
-        self.total_in += u128::from(came);
-        self.total_out += u128::from(left);
-        Ok(())
+        serve_all(net, stages, &self.traffic.queues, &mut self.passes);
+        advance(&mut self.traffic, net, &self.passes, arrivals)
+    }
+
+    /// One period in which the movements pass whose flags are set, one flag per movement, and these
+    /// many vehicles arrive, one count of at most 9 digits per fed link.
+    ///
+    /// A movement whose flag is set passes the lesser of its flow and its queue, by the queues before
+    /// the period and whatever its weight; all else is as in `close`.
+    ///
+    /// `AboveAt` comes exactly as in `close`: it names the least link that would be above its bucket,
+    /// and the state stays as it was.
+    pub fn close_open(
+        &mut self,
+        net: &Net,
+        passing: &[bool],
+        arrivals: &[u64],
+    ) -> Result<(), AboveAt>
+        requires on { IsOn net.now self.old }
+        requires flags { length passing.now ≡ length net.now.movements }
+        requires counts { HasCounts net.now arrivals.now }
+        requires digits { All (λ a. a < 10 ^ 9) arrivals.now }
+        requires period { self.old.period < MOST_LINES }
+        ensures above { IfErr result (λ above. first_above net.now (entry self.old.levels) arrivals.now ≡ Some above.link) }
+        ensures excess { IfErr result (λ above. (A : List (List ℕ)) → HasTaken net.now self.old A → IsFirstAbove net.now A arrivals.now above.link) }
+        ensures stays { OnErr result (self.new ≡ self.old) }
+        ensures within { OnOk result (first_above net.now (entry self.old.levels) arrivals.now ≡ None) }
+        ensures taken { OnOk result ((A : List (List ℕ)) → HasTaken net.now self.old A → HasTaken net.now self.new (A ++ arrivals.now ∷ [])) }
+        ensures closed { OnOk result (self.new ≡ closed_open net.now self.old passing.now arrivals.now) }
+        ensures step { OnOk result ((state : StateOfModel) → Stands net.now self.old state → Stands net.now self.new (open_step net.now passing.now (arrivals_of net.now arrivals.now) state)) }
+        ensures period { OnOk result (self.new.period ≡ self.old.period + 1) }
+        ensures on { IsOn net.now self.new }
+    {
+        let _ = net.shares();
+        serve_open(net, passing, &self.traffic.queues, &mut self.passes);
+        advance(&mut self.traffic, net, &self.passes, arrivals)
     }
 }
 

@@ -1,6 +1,6 @@
-use Rattle.std.proofs.Common.{◌+◌, ◌∙◌, ap, arith, sym, map, pos, [], ◌∷◌, ◌++◌}
+use Rattle.std.proofs.Common.{◌+◌, ◌∙◌, ap, arith, sym, pos, [], ◌∷◌, ◌++◌}
 use Rattle.std.proofs.lemmas.List.FromFn.{map-range_with_len_more}
-use Rattle.mp_model.specs.Network.{Network, Movement, start_of}
+use Rattle.mp_model.specs.Network.{Movement, start_of}
 use Rattle.mp_step.proofs.starts.start_queues.Goals as goal
 
 pub loop-i-preserved : goal.loop-i-preserved

@@ -1,4 +1,4 @@
-use Rattle.std.proofs.Common.{◌≡◌, ◌≤◌, ◌+◌, ◌*◌, ◌^◌, ◌∙◌, ap, arith}
+use Rattle.std.proofs.Common.{◌≡◌, ◌+◌, ◌^◌, ◌∙◌, ap, arith}
 use Rattle.mp_model.specs.Network.{Movement, start_of}
 use Rattle.mp_press.proofs.Sums.{numbers_step}
 use Rattle.mp_step.proofs.Entering.{start_few}

@@ -1,9 +1,9 @@
-use Rattle.std.proofs.Common.{◌≡◌, ◌∙◌, ap, arith, rules, length, map, pos, replicate, sum, sum_by, sym}
+use Rattle.std.proofs.Common.{◌≡◌, ◌∙◌, ap, arith, rules, length, pos, replicate, sum, sym}
 use Rattle.std.proofs.lemmas.List.{length-map}
 use Rattle.std.proofs.lemmas.List.FromFn.{length-range_with_len}
 use Rattle.std.proofs.lemmas.List.Sums.{sum-map}
 use Rattle.mp_model.specs.Network.{movement_numbers, start_of}
-use Rattle.mp_press.specs.Queues.{naturals, NoneNegative}
+use Rattle.mp_press.specs.Queues.{naturals}
 use Rattle.mp_step.proofs.Above.{opening_within}
 use Rattle.mp_step.proofs.Following.{opens, no_entries, start_naturals, start_positive, zeros_positive}
 use Rattle.mp_step.proofs.Taking.{taken_none}
@@ -20,20 +20,22 @@ invariant_of-result c =
     let size : length c.in_ok-start_queues.field-0.items ≡ m = ap length q ∙ length-map (movement_numbers net) (λ k. pos (start_of net k)) ∙ length-range_with_len 1 (length net.movements) ∙ sym (c.from-movements.ensures ∙ c.movements.ensures.count) in
     let total : c.started.result ≡ sum (naturals c.in_ok-start_queues.field-0.items) = c.started.ensures.value ∙ sym (sum-map (start_of net) (movement_numbers net)) ∙ ap sum (sym (ap naturals q ∙ start_naturals (start_of net) (movement_numbers net))) in
     let n : length c.in_ok-vec.field-0.items ≡ m = search rules in
-    let y : length c.in_ok-vec-6.field-0.items ≡ m = search rules in
-    let z : length c.in_ok-vec-7.field-0.items ≡ m = search rules in
+    let y : length c.in_ok-passes.passes.items ≡ m = search rules in
+    let z : length c.in_ok-vec-6.field-0.items ≡ m = search rules in
     record {
-      some = rw q (start_positive (start_of net) (movement_numbers net));
-      next_some = rw q' (zeros_positive m);
-      period = omega arith;
-      few = omega (arith, c.started.ensures.few);
-      conserved = omega (arith, total);
-      within = rw (c.in_ok-make_buckets.ensures, v, l) (opening_within net 1 (length net.links));
-      next_queues = n ∙ sym size;
+      traffic = record {
+        some = rw q (start_positive (start_of net) (movement_numbers net));
+        next_some = rw q' (zeros_positive m);
+        period = omega arith;
+        few = omega (arith, c.started.ensures.few);
+        conserved = omega (arith, total);
+        within = rw (c.in_ok-make_buckets.ensures, v, l) (opening_within net 1 (length net.links));
+        next_queues = n ∙ sym size;
+        next_phases = search rules;
+        next_levels = search rules;
+        parts = z ∙ sym size;
+      };
       passes = y ∙ sym size;
-      next_phases = search rules;
-      next_levels = search rules;
-      parts = z ∙ sym size;
     }
 
 pub returns-clause-on : goal.returns-clause-on

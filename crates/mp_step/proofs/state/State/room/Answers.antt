@@ -6,11 +6,11 @@ use Rattle.mp_step.proofs.Above.{within_length}
 use Rattle.mp_step.proofs.state.State.room.Goals as goal
 
 pub room_at-requires-clause-within : goal.room_at-requires-clause-within
-room_at-requires-clause-within c = rw (c.deref.ensures.value, c.deref-2.ensures.value) c.self.invariant.within
+room_at-requires-clause-within c = rw (c.deref.ensures.value, c.deref-2.ensures.value) c.self.invariant.traffic.within
 
 pub room_at-requires-clause-known : goal.room_at-requires-clause-known
 room_at-requires-clause-known c =
-    omega (arith, c.from.ensures, ap length c.deref.ensures.value, within_length c.self.inside.buckets.items c.self.inside.levels.items c.self.invariant.within, ap (λ (s : Standing). length s.levels) c.self.view_is, c.requires)
+    omega (arith, c.from.ensures, ap length c.deref.ensures.value, within_length c.self.inside.traffic.buckets.items c.self.inside.traffic.levels.items c.self.invariant.traffic.within, ap (λ (s : Standing). length s.levels) c.self.view_is, c.requires)
 
 pub returns : goal.returns
 returns c = λ net on.
