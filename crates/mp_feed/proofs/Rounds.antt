@@ -1,12 +1,12 @@
 -- A table of one round gives the split of any number of vehicles.
-use Rattle.std.proofs.Common.{◌≡◌, ◌==◌, ◌≤◌, ◌<◌, ℕ, zero, suc, ◌+◌, ◌*◌, ◌/◌, ◌%◌, Bool, true, false, cond, List, [], ◌∷◌, ◌++◌, length, get_or, sum, sum_by, map, slice_index, ℤ, ◌<ℤ◌, ◌≤ℤ◌, int_lt, arith, refl, sym, ◌∙◌, ap, ap₂, add-one, eq-eqb, ne_eqb, subst, set, mul-le-mul, ◌⊎◌, inl, inr, ⊎_elim, le_refl, ◌^◌}
+use Rattle.std.proofs.Common.{◌≡◌, ◌==◌, ◌≤◌, ◌<◌, ℕ, zero, suc, ◌+◌, ◌*◌, ◌/◌, ◌%◌, Bool, true, false, cond, List, [], ◌∷◌, ◌++◌, length, get_or, sum, sum_by, map, slice_index, ℤ, ◌<ℤ◌, ◌≤ℤ◌, int_lt, arith, refl, sym, ◌∙◌, ap, ap₂, add-one, eq-eqb, ne_eqb, subst, set, mul-le-mul, ◌⊎◌, inl, inr, ⊎_elim, le_refl, ◌^◌, mod-lt}
 use Rattle.std.proofs.lemmas.Bool.{cases_lt}
 use Rattle.std.specs.List.{range_with_len, AllByRecursion, best_of, All}
 use Rattle.std.proofs.lemmas.Int.{ints}
 use Rattle.std.proofs.lemmas.Nat.{div-add-mod'}
 use Rattle.std.proofs.lemmas.List.Sums.{fold_push}
 use Rattle.std.proofs.lemmas.List.FromFn.{get_or-map-range_with_len}
-use Rattle.std.proofs.lemmas.List.{get_or_at, length-append, append_assoc}
+use Rattle.std.proofs.lemmas.List.{get_or_at, get_or_append_left, get_or-append-add, length-append, append_assoc}
 use Rattle.std.proofs.lemmas.List.Sums.{sum_by-cons, get_or-le-sum_by}
 use Rattle.std.proofs.lemmas.Grind.{common_steps}
 use Rattle.std.proofs.lemmas.List.FromFn.{length-map-range_with_len}
@@ -15,7 +15,7 @@ use borrow.Author.Differences.{true_is_lt, false_is_lt}
 use Rattle.mp_model.specs.Split.{first_greatest, credit_of}
 use Rattle.mp_laws.proofs.Credits.{again, some_length}
 use Rattle.mp_laws.proofs.Distinct.{range_distinct}
-use Rattle.mp_feed.specs.Counts.{counts, joins, gained, places_of}
+use Rattle.mp_feed.specs.Counts.{counts, joins, gained, places_of, AreJoined, IsTable}
 use Rattle.mp_laws.proofs.Lists.{AllOf-map, in_range, at_range}
 use Rattle.mp_laws.proofs.FirstGreatest.{first_in, first_agree}
 
@@ -117,39 +117,58 @@ few_set cs n m place v size read within each k h = ⊎_elim
     (λ (d : place ≡ k → ⊥). let s : slice_index (set cs place (v + 1)) k ≡ slice_index cs k = grind (arith, common_steps) in omega (arith, each k h))
     (same_or_not place k)
 
--- a table
-pub table_len : (shares places : List ℕ) (total : ℕ) → places ≡ map (joins shares) (range_with_len 0 total) → length places ≡ total
-table_len shares places total e = ap length e ∙ length-map-range_with_len (joins shares) 0 total
+-- the counts of one number of vehicles more
+rows_in : (m n w : ℕ) → m < n → m * w + w ≤ n * w
+rows_in m n w h = omega (arith, mul-le-mul h (le_refl w))
 
-pub table_at : (shares places : List ℕ) (total p : ℕ) → places ≡ map (joins shares) (range_with_len 0 total) → p < total → get_or places p 0 ≡ joins shares p
-table_at shares places total p e h = ap (λ t. get_or t p 0) e ∙ get_or-map-range_with_len (joins shares) 0 total p p 0 h (omega arith)
+pub rows_more : (shares joined cs : List ℕ) (n : ℕ) → AreJoined shares n joined → length cs ≡ length shares → ((k : ℕ) → k < length shares → slice_index cs k ≡ counts shares n k) → AreJoined shares (n + 1) (joined ++ cs)
+rows_more shares joined cs n rows size each = record {
+  size = omega (arith, length-append joined cs, rows.size, size);
+  each = λ m i h l. ⊎_elim
+      (λ (lt : m < n). get_or_append_left joined cs 0 (m * length shares + i) (omega (arith, rows_in m n (length shares) lt, rows.size)) ∙ rows.each m i lt l)
+      (λ (ge : n ≤ m).
+      let e : m ≡ n = omega arith in
+      let at : m * length shares + i ≡ length joined + i = omega (arith, ap (λ t. t * length shares) e, rows.size) in
+      ap (λ t. get_or (joined ++ cs) t 0) at ∙ get_or-append-add joined cs i 0 ∙ each i l ∙ ap (λ t. counts shares t i) (sym e))
+      (cases_lt m n);
+}
 
-pub mod_wraps : (at total : ℕ) → at + 1 ≡ total → 0 ≡ (at + 1) % total
-mod_wraps at total e = sym (ap (λ t. t % total) e ∙ mod_self total)
+-- a row lies within the counts
+pub row_within : (shares joined : List ℕ) (total n : ℕ) → AreJoined shares total joined → n < total → n * length shares + length shares ≤ length joined
+row_within shares joined total n rows h = omega (arith, rows_in n total (length shares) h, rows.size)
 
-pub mod_stays : (at total : ℕ) → at + 1 < total → at + 1 ≡ (at + 1) % total
-mod_stays at total h = sym (mod-eq_of_lt h)
+-- what a number of vehicles adds, by whole rounds and the rest
+pub rounds_rest : (shares : List ℕ) → 1 ≤ sum shares → (total n i : ℕ) → sum shares ≡ total → i < length shares → slice_index shares i * (n / total) + counts shares (n % total) i ≡ counts shares n i
+rounds_rest shares some total n i e h =
+    let r = rounds shares some (n / total) (n % total) i h in
+    let s : n / total * sum shares + n % total ≡ n = omega (arith, ap (λ t. n / total * t) e, div-add-mod' n total) in
+    sym r ∙ ap (λ t. counts shares t i) s
 
-pub mod_next : (at phase step total : ℕ) → at ≡ (phase + step) % total → (at + 1) % total ≡ (phase + (step + 1)) % total
-mod_next at phase step total e = ap (λ t. (t + 1) % total) e ∙ mod-add-mod (phase + step) total 1 ∙ ap (λ t. t % total) (shift phase step)
+-- counts only rise
+counts_rise : (shares : List ℕ) (n m i : ℕ) → counts shares n i ≤ counts shares (n + m) i
+counts_rise shares n zero i = let e : n + 0 ≡ n = omega arith in omega (arith, ap (λ t. counts shares t i) e)
+counts_rise shares n (suc m) i = omega (arith, counts_rise shares n m i, counts_more shares (n + m) i, ap (λ t. counts shares t i) (turn n m))
   where
-    shift : (phase step : ℕ) → phase + step + 1 ≡ phase + (step + 1)
-    shift phase step = omega arith
+    turn : (n m : ℕ) → n + m + 1 ≡ n + suc m
+    turn n m = omega arith
 
-pub mod_whole : (phase n total : ℕ) → (phase + n % total) % total ≡ (phase + n) % total
-mod_whole phase n total = ap (λ t. t % total) (turn phase (n % total)) ∙ mod-add-mod n total phase ∙ ap (λ t. t % total) (turn n phase)
-  where
-    turn : (a b : ℕ) → a + b ≡ b + a
-    turn a b = omega arith
+-- the shares of the rounds with the later count are at least the earlier count, and exceed it by what was gained
+module _ (shares joined : List ℕ) (total phase n p t rest : ℕ) (table : IsTable shares total joined) (h : phase < total) (ep : p ≡ phase) (et : t ≡ total) (er : rest ≡ (phase + n) % total) where
+  before_in : (i : ℕ) → i < length shares → slice_index joined (phase * length shares + i) ≡ counts shares phase i
+  before_in i l = table.table.each phase i h l
 
--- what was gained in all
-pub gained_is : (shares : List ℕ) → 1 ≤ sum shares → (total phase n i g : ℕ) → sum shares ≡ total → i < length shares → g + counts shares phase i ≡ slice_index shares i * (n / total) + counts shares (phase + n % total) i → g ≡ gained shares phase n i
-gained_is shares some total phase n i g e h is =
-    let m = n / total in
-    let r = rounds shares some m (phase + n % total) i h in
-    let s : m * sum shares + (phase + n % total) ≡ phase + n = omega (arith, ap (λ t. m * t) e, div-add-mod' n total) in
-    let c : counts shares (m * sum shares + (phase + n % total)) i ≡ counts shares (phase + n) i = ap (λ t. counts shares t i) s in
-    omega arith
+  after_in : (i : ℕ) → i < length shares → slice_index shares i * ((p + n) / t) + slice_index joined (rest * length shares + i) ≡ counts shares (phase + n) i
+  after_in i l =
+      let some : 1 ≤ sum shares = omega (arith, table.sums, table.some) in
+      let at : slice_index joined (rest * length shares + i) ≡ counts shares ((phase + n) % total) i = table.table.each rest i (let m = mod-lt (phase + n) table.some in omega (arith, er)) l ∙ ap (λ r. counts shares r i) er in
+      let turns : slice_index shares i * ((p + n) / t) ≡ slice_index shares i * ((phase + n) / total) = ap₂ (λ a b. slice_index shares i * ((a + n) / b)) ep et in
+      omega (arith, at, turns, rounds_rest shares some total (phase + n) i table.sums l)
+
+  pub gain_within : (i e l : ℕ) → i < length shares → e ≡ slice_index joined (phase * length shares + i) → l ≡ slice_index joined (rest * length shares + i) → e ≤ slice_index shares i * ((p + n) / t) + l
+  gain_within i e l k ee el = omega (arith, ee, el, before_in i k, after_in i k, counts_rise shares phase n i)
+
+  pub gain_is : (i g e l : ℕ) → i < length shares → e ≡ slice_index joined (phase * length shares + i) → l ≡ slice_index joined (rest * length shares + i) → g + e ≡ slice_index shares i * ((p + n) / t) + l → g ≡ gained shares phase n i
+  gain_is i g e l k ee el is = omega (arith, is, ee, el, before_in i k, after_in i k)
 
 pub counts_few : (shares : List ℕ) (n i : ℕ) → counts shares n i ≤ n
 counts_few shares zero i = omega arith
@@ -172,19 +191,8 @@ length-le-sum (x ∷ xs) h = omega (arith, sum_by-cons (λ y. y) x xs, length-le
 pub each_few : (xs : List ℕ) → sum xs ≤ 1000 → All (λ w. w ≤ 1000) xs
 each_few xs h i d l = omega (arith, get_or-le-sum_by (λ y. y) xs i d l)
 
--- one more place of a walk
-pub gains_set : (shares got : List ℕ) (base before : ℕ → ℕ) (n place : ℕ) → length got ≡ length shares → place < length shares → place ≡ joins shares n → ((k : ℕ) → k < length shares → slice_index got k + before k ≡ base k + counts shares n k) →
-    (k : ℕ) → k < length shares → slice_index (set got place (slice_index got place + 1)) k + before k ≡ base k + counts shares (n + 1) k
-gains_set shares got base before n place size within is each k h = ⊎_elim
-    (λ (e : place ≡ k). let s : slice_index (set got place (slice_index got place + 1)) k ≡ slice_index got place + 1 = grind (arith, common_steps) in
-    let t : slice_index got place ≡ slice_index got k = ap (slice_index got) e in
-    omega (arith, each k h, counts_here shares n k (counts shares n k) (sym is ∙ e) refl))
-    (λ (d : place ≡ k → ⊥). let s : slice_index (set got place (slice_index got place + 1)) k ≡ slice_index got k = grind (arith, common_steps) in
-    omega (arith, each k h, counts_other shares n k (counts shares n k) (λ e. d (is ∙ e)) refl))
-    (same_or_not place k)
+pub few_rounds : (phase n total : ℕ) → 1 ≤ total → phase < 1000 → n ≤ 2 ^ 32 → (phase + n) / total ≤ 2 ^ 33
+few_rounds phase n total h p k = omega (arith, mul-le-mul h (le_refl ((phase + n) / total)), div-add-mod' (phase + n) total)
 
-pub round_few : (w m : ℕ) → w ≤ 1000 → m ≤ 2 ^ 32 → w * m ≤ 1000 * 2 ^ 32
-round_few w m h k = mul-le-mul h k
-
-pub div_few : (n total : ℕ) → 1 ≤ total → n / total ≤ n
-div_few n total h = omega (arith, mul-le-mul h (le_refl (n / total)))
+pub share_few : (w m : ℕ) → w ≤ 1000 → m ≤ 2 ^ 33 → w * m ≤ 1000 * 2 ^ 33
+share_few w m h k = mul-le-mul h k

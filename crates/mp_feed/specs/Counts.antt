@@ -1,5 +1,5 @@
 -- The split of vehicles among the shares of a link, where the shares have the places from 0 on.
-use Rattle.std.specs.Prelude.{◌≡◌, ◌≤◌, ℕ, suc, ◌+◌, ◌-◌, List, length, map, sum, slice_index, ℤ, All}
+use Rattle.std.specs.Prelude.{◌≡◌, ◌≤◌, ◌<◌, ℕ, suc, ◌+◌, ◌-◌, ◌*◌, List, length, sum, slice_index, ℤ, All}
 use Rattle.std.specs.List.{range_with_len}
 use Rattle.mp_model.specs.Split.{split_counts, first_greatest, credit_of}
 
@@ -28,11 +28,16 @@ gained shares phase n i = counts shares (phase + n) i - counts shares phase i
 abbrev pub credit_at : List ℕ → ℕ → ℕ → ℤ
 credit_at shares phase i = credit_of (sum shares) (slice_index shares i) phase (counts shares phase i)
 
--- A table gives, for each vehicle of a round, the share that it joins.
-pub record IsTable (shares : List ℕ) (total : ℕ) (places : List ℕ) : Type 0 where
+-- These are the counts of the first vehicles, row after row: row n, for each n below the rows, says how many of the first n vehicles joined each share.
+pub record AreJoined (shares : List ℕ) (rows : ℕ) (joined : List ℕ) : Type 0 where
+  pub size : length joined ≡ rows * length shares
+  pub each : (n i : ℕ) → n < rows → i < length shares → slice_index joined (n * length shares + i) ≡ counts shares n i
+
+-- A table has the counts of a round.
+pub record IsTable (shares : List ℕ) (total : ℕ) (joined : List ℕ) : Type 0 where
   pub sums : sum shares ≡ total
   pub some : 1 ≤ total
   pub most : total ≤ 1000
   pub few : length shares ≤ 1000
   pub each : All (λ w. w ≤ 1000) shares
-  pub table : places ≡ map (joins shares) (range_with_len 0 total)
+  pub table : AreJoined shares total joined

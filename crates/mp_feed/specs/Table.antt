@@ -7,7 +7,7 @@ use Rattle.mp_feed.specs.declared.splitter.Splitter.TheInside.{Inside}
 abbrev pub split_of : Inside → Split
 split_of s = record { shares = s.shares.items; phase = s.phase }
 
--- It keeps the table of a round, and a phase within it.
+-- It keeps the counts of a round, and a phase within it.
 pub record HasTable (s : Inside) : Type 0 where
-  pub table : IsTable s.shares.items s.total s.places.items
+  pub table : IsTable s.shares.items s.total s.joined.items
   pub phase : s.phase < s.total

@@ -1,8 +1,8 @@
-// Weighted round robin by the table of one round.
-ghost use Rattle.std.specs.Prelude.{◌≡◌, ◌≤◌, ◌<◌, ◌+◌, ◌*◌, ◌%◌, ◌^◌, ℕ, List, length, map, sum, slice_index, slice_set, IfOk, All, IsTrue, ◌↔◌, pos, ◌-ℤ◌};
+// Weighted round robin by the counts of one round.
+ghost use Rattle.std.specs.Prelude.{◌≡◌, ◌≤◌, ◌<◌, ◌+◌, ◌*◌, ◌/◌, ◌%◌, ◌^◌, ℕ, List, length, map, sum, slice_index, IfOk, All, IsTrue, ◌↔◌, pos, ◌-ℤ◌};
 ghost use Rattle.std.specs.List.{range_with_len};
 ghost use Rattle.mp_model.specs.Split.{first_greatest, credit_of};
-ghost use Rattle.mp_feed.specs.Counts.{Split, counts, joins, gained, places_of, credit_at, IsTable};
+ghost use Rattle.mp_feed.specs.Counts.{Split, counts, gained, places_of, credit_at, AreJoined, IsTable};
 
 use crate::memory::NoMemory;
 use std::alloc::{AllocError, Global};
@@ -17,8 +17,9 @@ use std::marker::Model;
 pub struct Splitter {
     shares: Vec<u32>,
     total: u32,
-    // The share that the vehicle after the first n of a round joins.
-    places: Vec<u16>,
+    // How many of the first n vehicles of a round joined each share: one row of counts for each n
+    // below the total.
+    joined: Vec<u16>,
     phase: u32,
 }
 
@@ -44,12 +45,12 @@ impl Splitter {
         ensures { IfOk result (λ s. s ≡ record { shares = shares.now; phase = 0 }) }
     {
         let total = total_of(shares);
-        let places = table(alloc, shares, total)?;
+        let joined = table(alloc, shares, total)?;
         let shares = shares.to_vec(alloc)?;
         Ok(Splitter {
             shares,
             total,
-            places,
+            joined,
             phase: 0,
         })
     }
@@ -63,7 +64,7 @@ impl Splitter {
         ensures phase { self.new ≡ record self.old { phase = (self.old.phase + n) % sum self.old.shares } }
     {
         let phase = self.phase;
-        self.phase = walk(&self.shares, self.total, &self.places, phase, n, got);
+        self.phase = gain(&self.shares, self.total, &self.joined, phase, n, got);
     }
 
     /// Writes how many of the n vehicles after the first `phase` ones of a round join each movement,
@@ -75,7 +76,7 @@ impl Splitter {
         ensures got { got.new ≡ map (gained self.now.shares phase n) (places_of self.now.shares) }
         ensures phase { result ≡ (phase + n) % sum self.now.shares }
     {
-        walk(&self.shares, self.total, &self.places, phase, n, got)
+        gain(&self.shares, self.total, &self.joined, phase, n, got)
     }
 
     /// The credit of the i-th share, from 0: the share times the vehicles that came, less the sum of
@@ -84,7 +85,7 @@ impl Splitter {
         requires { i < length self.now.shares }
         ensures { result ≡ credit_at self.now.shares self.now.phase i }
     {
-        let count = joined(&self.shares, self.total, &self.places, self.phase, i);
+        let count = row(&self.joined, self.shares.len(), self.phase)[i];
         difference(
             u64::from(self.shares[i]) * u64::from(self.phase),
             u64::from(self.total) * u64::from(count),
@@ -107,7 +108,7 @@ fn total_of(shares: &[u32]) -> u32
 }
 
 // The share with the greatest credit where n vehicles are on the link and so many joined each.
-fn next_place(shares: &[u32], counts: &[u32], total: u32, n: u32) -> usize
+fn next_place(shares: &[u32], counts: &[u16], total: u32, n: u32) -> usize
     requires len { length counts.now ≡ length shares.now }
     requires some { 0 < length shares.now }
     ensures greatest { result ≡ first_greatest (λ i. credit_of total (slice_index shares.now i) n (slice_index counts.now i)) (range_with_len 0 (length shares.now)) }
@@ -115,7 +116,14 @@ fn next_place(shares: &[u32], counts: &[u32], total: u32, n: u32) -> usize
 {
     let mut best = 0;
     for i in 1..shares.len() {
-        if beats(shares[i], shares[best], counts[i], counts[best], total, n) {
+        if beats(
+            shares[i],
+            shares[best],
+            u32::from(counts[i]),
+            u32::from(counts[best]),
+            total,
+            n,
+        ) {
             best = i;
         }
     }
@@ -129,82 +137,65 @@ fn beats(share: u32, other: u32, count: u32, of_other: u32, total: u32, n: u32) 
         < u128::from(share) * u128::from(n) + u128::from(total) * u128::from(of_other)
 }
 
-// What the n vehicles after the first `phase` ones add, and the phase after them.
-fn walk(shares: &[u32], total: u32, places: &[u16], phase: u32, n: u64, got: &mut [u64]) -> u32
-    requires table { IsTable shares.now total places.now }
+// What the n vehicles after the first `phase` ones add, and the phase after them: as many rounds as
+// they end add the shares, and what was counted before them is taken away.
+fn gain(shares: &[u32], total: u32, joined: &[u16], phase: u32, n: u64, got: &mut [u64]) -> u32
+    requires table { IsTable shares.now total joined.now }
     requires phase { phase < total }
     requires len { length got.old ≡ length shares.now }
     requires few { n ≤ 2 ^ 32 }
     ensures got { got.new ≡ map (gained shares.now phase n) (places_of shares.now) }
     ensures phase { result ≡ (phase + n) % sum shares.now }
 {
-    whole_rounds(shares, n / u64::from(total), got);
-    let mut at = phase;
-    for _step in 0..n % u64::from(total) {
-        bump(got, usize::from(places[at as usize]));
-        at = after(at, total);
-    }
-    at
+    let end = u64::from(phase) + n;
+    let rounds = end / u64::from(total);
+    let rest = (end % u64::from(total)) as u32;
+    let earlier = row(joined, shares.len(), phase);
+    let later = row(joined, shares.len(), rest);
+    put_gains(shares, rounds, earlier, later, got);
+    rest
 }
 
-fn bump(got: &mut [u64], i: usize)
-    requires known { i < length got.old }
-    requires few { slice_index got.old i < 2 ^ 63 }
-    ensures { got.new ≡ slice_set got.old i (slice_index got.old i + 1) }
+// How many of the first n vehicles of a round joined each share.
+fn row(joined: &[u16], width: usize, n: u32) -> &[u16]
+    requires { n * width + width ≤ length joined.now }
+    ensures len { length result.now ≡ width }
+    ensures each { (i : ℕ) → i < width → slice_index result.now i ≡ slice_index joined.now (n * width + i) }
 {
-    got[i] += 1;
+    let start = n as usize * width;
+    &joined[start..start + width]
 }
 
-// The next phase.
-fn after(at: u32, total: u32) -> u32
-    requires { at < total }
-    ensures { result ≡ (at + 1) % total }
-{
-    if at + 1 == total { 0 } else { at + 1 }
-}
-
-// The vehicles of whole rounds.
-fn whole_rounds(shares: &[u32], rounds: u64, got: &mut [u64])
+// The shares of the rounds, with the later counts and without the earlier.
+fn put_gains(shares: &[u32], rounds: u64, earlier: &[u16], later: &[u16], got: &mut [u64])
     requires len { length got.old ≡ length shares.now }
-    requires few { rounds ≤ 2 ^ 32 }
+    requires earlier_len { length earlier.now ≡ length shares.now }
+    requires later_len { length later.now ≡ length shares.now }
     requires each { All (λ w. w ≤ 1000) shares.now }
-    ensures { got.new ≡ map (λ w. w * rounds) shares.now }
+    requires rounds { rounds ≤ 2 ^ 33 }
+    requires within { (i : ℕ) → i < length shares.now → slice_index earlier.now i ≤ slice_index shares.now i * rounds + slice_index later.now i }
+    ensures len { length got.new ≡ length shares.now }
+    ensures gains { (i : ℕ) → i < length shares.now → slice_index got.new i + slice_index earlier.now i ≡ slice_index shares.now i * rounds + slice_index later.now i }
 {
     for i in 0..got.len() {
-        got[i] = u64::from(shares[i]) * rounds;
+        got[i] = u64::from(shares[i]) * rounds + u64::from(later[i]) - u64::from(earlier[i]);
     }
 }
 
-// How many of the first `phase` vehicles joined share i.
-fn joined(shares: &[u32], total: u32, places: &[u16], phase: u32, i: usize) -> u32
-    requires table { IsTable shares.now total places.now }
-    requires phase { phase < total }
-    requires known { i < length shares.now }
-    ensures value { result ≡ counts shares.now phase i }
-    ensures few { result ≤ phase }
-{
-    let mut count = 0;
-    for n in 0..phase {
-        if usize::from(places[n as usize]) == i {
-            count += 1;
-        }
-    }
-    count
-}
-
-// The table of a round.
+// The counts of a round: each vehicle joins where the credit is then greatest.
 fn table(alloc: Global, shares: &[u32], total: u32) -> Result<Vec<u16>, AllocError>
     requires some { 1 ≤ length shares.now }
     requires few { length shares.now ≤ 1000 }
     requires total { total ≡ sum shares.now }
-    ensures { IfOk result (λ v. v.items ≡ map (joins shares.now) (range_with_len 0 total)) }
+    requires most { total ≤ 1000 }
+    ensures { IfOk result (λ v. AreJoined shares.now total v.items) }
 {
-    let mut counts = vec![in alloc; 0u32; shares.len()]?;
-    let mut places = Vec::with_capacity(alloc, total as usize)?;
+    let mut counts = vec![in alloc; 0u16; shares.len()]?;
+    let mut joined = Vec::with_capacity(alloc, total as usize * shares.len())?;
     for n in 0..total {
+        joined.extend_from_slice(&counts)?;
         let place = next_place(shares, &counts, total, n + 1);
-        places.push(place as u16)?;
         counts[place] += 1;
     }
-    Ok(places)
+    Ok(joined)
 }

@@ -1,4 +1,4 @@
-ghost use Rattle.std.specs.Prelude.{◌≡◌, ◌≤◌, ◌^◌, length, sum, All};
+ghost use Rattle.std.specs.Prelude.{◌≡◌, ◌≤◌, ◌<◌, ◌^◌, length, sum, All};
 
 use super::*;
 use std::alloc::{AllocError, Global};
@@ -69,6 +69,22 @@ fn one_by_one(shares: &[u32], n: u64, credits: &mut [i64], got: &mut [u64]) {
     }
 }
 
+// The same for any count: of many vehicles, whole rounds give each share as many as it is.
+fn plain(shares: &[u32], n: u64, credits: &mut [i64], got: &mut [u64]) {
+    if n < 5000 {
+        one_by_one(shares, n, credits, got);
+        return;
+    }
+    let total = shares
+        .iter()
+        .fold(0u64, |sum, &share| sum.wrapping_add(u64::from(share)));
+    let rounds = n.checked_div(total).unwrap_or(0);
+    one_by_one(shares, n.checked_rem(total).unwrap_or(0), credits, got);
+    for (count, &share) in got.iter_mut().zip(shares) {
+        *count = count.wrapping_add(rounds.wrapping_mul(u64::from(share)));
+    }
+}
+
 // After `before` vehicles the next n join as they do one by one.
 fn compare(
     rt: &impl Abort,
@@ -87,10 +103,10 @@ fn compare(
     let mut want = vec![in alloc; 0u64; shares.len()]?;
     let mut credits = vec![in alloc; 0i64; shares.len()]?;
     splitter.take(before, &mut got);
-    one_by_one(shares, before, &mut credits, &mut want);
+    plain(shares, before, &mut credits, &mut want);
     assert_eq!(rt; got.as_slice(), want.as_slice());
     splitter.take(n, &mut got);
-    one_by_one(shares, n, &mut credits, &mut want);
+    plain(shares, n, &mut credits, &mut want);
     assert_eq!(rt; got.as_slice(), want.as_slice());
     Ok(())
 }
@@ -103,6 +119,58 @@ fn splits_as_the_credits_do(rt: HostRuntime) -> Result<(), Fail> {
     compare(&rt, rt.alloc(), &[70, 10, 20], 99, 1234)?;
     compare(&rt, rt.alloc(), &[1, 998, 1], 500, 2501)?;
     compare(&rt, rt.alloc(), &[3, 3, 3, 3], 5, 8)?;
+    Ok(())
+}
+
+// A number below the limit (Knuth's generator).
+fn draw(seed: &mut u64, limit: u64) -> u64
+    requires { 0 < limit }
+    ensures { result < limit }
+{
+    *seed = seed
+        .wrapping_mul(6_364_136_223_846_793_005)
+        .wrapping_add(1_442_695_040_888_963_407);
+    (*seed >> 33) % limit
+}
+
+fn draw_share(seed: &mut u64) -> u32
+    ensures some { 1 ≤ result }
+    ensures few { result ≤ 200 }
+{
+    1 + draw(seed, 200) as u32
+}
+
+// Random shares, from a random phase on, with counts below and above 2^31.
+fn compare_random(rt: &impl Abort, alloc: Global, seed: u64) -> Result<(), NoMemory> {
+    let mut seed = seed;
+    let a = draw_share(&mut seed);
+    let b = draw_share(&mut seed);
+    let c = draw_share(&mut seed);
+    let before = draw(&mut seed, 2000);
+    let many = 2_147_483_648 + draw(&mut seed, 2_147_483_648);
+    compare(rt, alloc, &[a, b], before, many)?;
+    compare(rt, alloc, &[a, b, c, 1, a], before, many)?;
+    compare(rt, alloc, &[c, b, a, b], many, before)
+}
+
+#[test]
+fn splits_random_shares(rt: HostRuntime) -> Result<(), Fail> {
+    for seed in 0..20 {
+        compare_random(&rt, rt.alloc(), seed)?;
+    }
+    Ok(())
+}
+
+// A million rounds and two vehicles more.
+#[test]
+fn splits_a_million_rounds(rt: HostRuntime) -> Result<(), Fail> {
+    let mut splitter = Splitter::new(rt.alloc(), &[5, 1, 1])?;
+    let mut got = [0u64; 3];
+    splitter.take(7_000_002, &mut got);
+    assert_eq!(rt; got, [5_000_002, 1_000_000, 1_000_000]);
+    assert_eq!(rt; splitter.credit(0), -4);
+    assert_eq!(rt; splitter.credit(1), 2);
+    assert_eq!(rt; splitter.credit(2), 2);
     Ok(())
 }
 

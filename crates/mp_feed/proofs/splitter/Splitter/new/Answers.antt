@@ -13,13 +13,13 @@ invariant_of-result c =
     let items : c.in_ok-shares.shares.items ≡ shares = search rules in
     let some : 1 ≤ sum shares = omega (arith, length-le-sum shares (recursion_from_All (λ w. 1 ≤ w) shares c.requires.each), c.requires.some) in
     record {
-      table = subst (λ xs. IsTable xs c.total_of-total.result c.in_ok-places.places.items) (sym items) (record {
+      table = subst (λ xs. IsTable xs c.total_of-total.result c.in_ok-joined.joined.items) (sym items) (record {
         sums = sym c.total_of-total.ensures;
         some = omega (arith, c.total_of-total.ensures);
         most = omega (arith, c.total_of-total.ensures);
         few = omega (arith, length-le-sum shares (recursion_from_All (λ w. 1 ≤ w) shares c.requires.each));
         each = each_few shares c.requires.few;
-        table = c.in_ok-places.ensures;
+        table = c.in_ok-joined.ensures;
       });
       phase = omega (arith, c.total_of-total.ensures);
     }
