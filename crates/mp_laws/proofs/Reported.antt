@@ -28,7 +28,7 @@ use Rattle.mp_laws.proofs.Sums.{sum_by-same}
 use Rattle.mp_laws.proofs.Tied.{greatest_drift_same, excess_is}
 
 -- from each state of a run to the next no queue changes by more than its greatest change
-abbrev Linked : Network → State → List State → Type 0
+abbrev pub Linked : Network → State → List State → Type 0
 Linked net now [] = Unit {0}
 Linked net now (before ∷ earlier) = AllByRecursion (λ k. DifferBy (greatest_change net k) (queue before k) (queue now k)) (movement_numbers net) × Linked net before earlier
 
@@ -36,7 +36,7 @@ differ_more : (J n x y z : ℕ) → DifferBy J y x → DifferBy (n * J) y z → 
 differ_more J n x y z a b = let u = a.up in let d = a.down in let v = b.up in let e = b.down in record { up = omega arith; down = omega arith }
 
 -- so a queue some periods ago differs by at most so many greatest changes
-ago : (net : Network) (default now : State) (earlier : List State) → Linked net now earlier → (age k : ℕ) → has (movement_numbers net) k ≡ true → age ≤ length earlier →
+pub ago : (net : Network) (default now : State) (earlier : List State) → Linked net now earlier → (age k : ℕ) → has (movement_numbers net) k ≡ true → age ≤ length earlier →
     DifferBy (age * greatest_change net k) (queue now k) (queue (get_or (now ∷ earlier) age default) k)
 ago net default now earlier linked zero k in' h = record { up = omega arith; down = omega arith }
 ago net default now [] linked (suc n) k in' h = absurd (omega arith)
@@ -59,7 +59,7 @@ differ_wider : (d e x y : ℕ) → d ≤ e → DifferBy d x y → DifferBy e x y
 differ_wider d e x y le h = let u = h.up in let v = h.down in record { up = omega arith; down = omega arith }
 
 -- the reported queues are near those of now
-reports_near : (net : Network) (history : History) → Linked net history.now history.earlier → (j : Junction) (ages : List ℕ) → AllByRecursion (IsTimelyAge net (length history.earlier)) ages →
+pub reports_near : (net : Network) (history : History) → Linked net history.now history.earlier → (j : Junction) (ages : List ℕ) → AllByRecursion (IsTimelyAge net (length history.earlier)) ages →
     AllByRecursion (λ k. DifferBy (net.delay * greatest_change net k) (queue history.now k) (reported_queue net history j ages k)) (movement_numbers net)
 reports_near net history linked j ages timely = each_in _ (movement_numbers net) (λ k in'.
     let age = count_in (targets net j) ages (from_of net k) in
