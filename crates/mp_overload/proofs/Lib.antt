@@ -3,5 +3,7 @@ pub mod Passing
 pub mod Accounts
 pub mod Trails
 pub mod Forms
+pub mod Phased
 pub mod Cases
+pub mod Runs
 pub mod Sharper

@@ -8,6 +8,7 @@ use Rattle.mp_model.specs.Worked.{two_approaches_at, roundabout}
 use Rattle.mp_overload.specs.Evens.{uneven_link}
 use Rattle.mp_overload.specs.Forming.{lost_formed, least_formed}
 use Rattle.mp_overload.specs.Growing.{growth, lost_to_rounding, weighed_queues}
+use Rattle.mp_overload.specs.Laws.{IsFormed}
 use Rattle.mp_overload.specs.Trails.{trail, even_run, IsOnTrail}
 
 -- Two approaches of rate 5, the first of which has a burst of 0.
@@ -37,6 +38,20 @@ pub record WorkedGrowths : Type 0 where
   pub split : lost_to_rounding roundabout (entry both) ≡ 14
   pub uneven : uneven_link five_without_burst ≡ Some 1
 
+-- Two approaches of rate 5 that take turns, on which these vehicles stand at the start.
+abbrev pub five_from : ℕ → ℕ → Network
+five_from a b = record (two_approaches_at 5) {
+  movements = record { name = codes "ao"; from = 1; to = None; share = 1; flow = 2; start = a } ∷ record { name = codes "bo"; from = 2; to = None; share = 1; flow = 2; start = b } ∷ [];
+}
+
+-- Two approaches of rate 5 after 1,000 periods of greatest stages. The vector 1, 1 grows by 2 a period and 6 is lost to rounding, so it weighs at least 1994; it weighs 2012, and 1,997 of 2,500 vehicles have left. Where 50 and 30 vehicles stand at the start it weighs 2320, and 2,000 have left.
+pub record WorkedRuns : Type 0 where
+  pub five : IsFormed (two_approaches_at 5) (pos 1 ∷ pos 1 ∷ []) (even_run (two_approaches_at 5) 1000) (pos 2) (pos 6) (pos 2012) (pos 1994)
+  pub entered : (even_run (two_approaches_at 5) 1000).total_in ≡ 2500
+  pub departed : (even_run (two_approaches_at 5) 1000).total_out ≡ 1997
+  pub started : IsFormed (five_from 50 30) (pos 1 ∷ pos 1 ∷ []) (even_run (five_from 50 30) 1000) (pos 2) (pos 6) (pos 2320) (pos 1994)
+  pub started_departed : (even_run (five_from 50 30) 1000).total_out ≡ 2000
+
 -- A link that brings two vehicles a period leads to a movement that passes one, and nothing is rounded.
 abbrev pub narrow : Network
 narrow = record {
@@ -48,7 +63,7 @@ narrow = record {
   junctions = record { name = codes "j"; stages = (1 ∷ []) ∷ [] } ∷ [];
 }
 
--- With the growth one higher the law is false.
+-- With the growth a period one higher the law of growth is false.
 abbrev pub NotFaster : Type 0
 NotFaster = ¬ ((net : Network) → IsNetwork net → (p : ℕ → ℕ) (choices : List (List ℕ)) → (pos (length choices) *ℤ (growth net p +ℤ pos 1) -ℤ pos (lost_to_rounding net p)) ≤ℤ pos (weighed_queues net p (queue (trail net choices))))
 

@@ -6,7 +6,7 @@ use Rattle.mp_model.specs.Network.{Network, movement_numbers, from_of, share_of,
 use Rattle.mp_num.specs.Operations.{times, plus, less, num, summed}
 use Rattle.mp_overload.specs.Growing.{rated}
 
--- This is the number of movement k in a vector of natural numbers that are given as signed ones.
+-- This is the number of movement k in a vector that is given in signed numbers of at least 0.
 abbrev pub natural_entry : List ℤ → ℕ → ℕ
 natural_entry p k = entry (map unsigned_abs p) k
 

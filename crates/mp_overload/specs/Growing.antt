@@ -15,11 +15,11 @@ rated net = filter (λ k. nat_lt 0 (rate_before net k)) (movement_numbers net)
 abbrev pub lost_to_counts : Network → (ℕ → ℕ) → ℕ
 lost_to_counts net p = (net.per - 1) * sum_by (λ k. p k * share_of net k) (rated net)
 
--- The movements of a link that others leave too may lack this much of their shares, times the share total.
+-- Where d movements leave its link, movement k may lack (d - 1) times the share total less 1 of its exact share, times the share total; this is the vector times that.
 abbrev pub lost_to_split : Network → (ℕ → ℕ) → ℕ → ℕ
 lost_to_split net p k = p k * (length (out_of net (from_of net k)) - 1) * (net.shares - 1)
 
--- What is lost to rounding in all, however many the periods.
+-- What is lost to rounding in all, in however many periods, is what is lost to counts, plus the rate length times what is lost to the splits.
 abbrev pub lost_to_rounding : Network → (ℕ → ℕ) → ℕ
 lost_to_rounding net p = lost_to_counts net p + net.per * sum_by (lost_to_split net p) (movement_numbers net)
 
@@ -27,6 +27,6 @@ lost_to_rounding net p = lost_to_counts net p + net.per * sum_by (lost_to_split 
 abbrev pub weighed_queues : Network → (ℕ → ℕ) → (ℕ → ℕ) → ℕ
 weighed_queues net p q = net.shares * net.per * sum_by (λ k. p k * q k) (movement_numbers net)
 
--- After T periods the queues have grown by at least the growth of each, less what is lost to rounding.
+-- After T periods the queues that the vector weighs are at least T times its growth a period, less what is lost to rounding.
 abbrev pub HasGrown : Network → (ℕ → ℕ) → ℕ → (ℕ → ℕ) → Type 0
 HasGrown net p T q = (pos T *ℤ growth net p -ℤ pos (lost_to_rounding net p)) ≤ℤ pos (weighed_queues net p q)

@@ -29,11 +29,11 @@ pub record PassesWithin (net : Network) (stages : List ℕ) (q p : ℕ → ℕ) 
 abbrev pub PassingLaw : Type 0
 PassingLaw = (net : Network) (stages : List ℕ) (q p : ℕ → ℕ) → PassesWithin net stages q p
 
--- After any choices of stages, one list of them a period, the queues that a vector weighs have grown by at least the growth of each period, less what is lost to rounding.
+-- After any choices of stages, one list of them a period, the queues that a vector weighs are at least the growth of all periods, less what is lost to rounding.
 abbrev pub GrowthLaw : Type 0
 GrowthLaw = (net : Network) → IsNetwork net → (p : ℕ → ℕ) (choices : List (List ℕ)) → HasGrown net p (length choices) (queue (trail net choices))
 
--- So they have in each state on a trail.
+-- So they are in each state on a trail.
 abbrev pub TrailLaw : Type 0
 TrailLaw = (net : Network) → IsNetwork net → (state : State) → IsOnTrail net state → (p : ℕ → ℕ) → HasGrown net p state.period (queue state)
 

@@ -3,7 +3,7 @@
 #![tactic(auto)]
 
 ghost use Rattle.mp_overload.specs.Laws.{EvenLaw, UnevenLaw, PassingLaw, GrowthLaw, TrailLaw, RunLaw, FormedLaw, LeastLaw};
-ghost use Rattle.mp_overload.specs.Cases.{OverloadedCase, WorkedGrowths, NotFaster, NotLessLost};
+ghost use Rattle.mp_overload.specs.Cases.{OverloadedCase, WorkedGrowths, WorkedRuns, NotFaster, NotLessLost};
 
 /// Even arrivals are permitted where no fed link has a burst of 0 and a rate that is not a multiple of
 /// the rate length.
@@ -56,6 +56,11 @@ pub fn overloaded_case()
 /// Worked numbers: growth, what is lost to rounding, the least after 1,000 periods, and an uneven link.
 pub fn worked_growths()
     ensures { WorkedGrowths }
+{}
+
+/// What is formed after 1,000 periods of greatest stages, also from queues at the start.
+pub fn worked_runs()
+    ensures { WorkedRuns }
 {}
 
 /// With a growth a period that is one higher the law is false.
