@@ -1,0 +1,5 @@
+pub mod Summing
+pub mod EvenCounts
+pub mod Searching
+pub mod Rates
+pub mod Going
