@@ -8,7 +8,7 @@ use Rattle.mp_model.specs.Bounds.{AreBounds}
 use Rattle.mp_model.specs.Certificate.{Cert}
 use Rattle.mp_model.specs.Load.{ShowsOverload, IsTight, load, capacity}
 use Rattle.mp_model.specs.Network.{Network, entry}
-use Rattle.mp_model.specs.Slack.{IsGreatestSlack}
+use Rattle.mp_model.specs.Slack.{IsSlack, IsGreatestSlack}
 use Rattle.mp_model.specs.Stream.{LineKind}
 use Rattle.mp_model.specs.Stream.LineKind.{long_line, bad_line}
 use Rattle.mp_model.specs.WholeLog.{DiffersAt}
@@ -28,7 +28,7 @@ use Rattle.mp_cli.specs.declared.outcome.Outcome.{Outcome}
 use Rattle.mp_cli.specs.declared.outcome.Outcome.TheVariants.{Done, Run as Ran, Store, Network as BadNetwork, LongText, Text, Critical, Overloaded, Certificate, ZeroVector, WeakVector, NoCertificate, Overflow, PivotLimit, SweepLimit, Differs, Read, Write, NoMemory}
 use Rattle.mp_cli.specs.Auditing.{audit_line, Compares}
 use Rattle.mp_cli.specs.Checking.{RefusesCert}
-use Rattle.mp_cli.specs.Commands.{Command, Run, RunWith, Show, Certify, Check, Refute, Audit, Demo, Scale, Unknown}
+use Rattle.mp_cli.specs.Commands.{Command, Run, RunWith, Show, Certify, Check, Refute, Audit, AuditWith, Demo, Scale, Unknown}
 use Rattle.mp_cli.specs.Complete.{IsGoodFile, IsGoodText, IsGoodStream, IsExcessiveStream, IsGoodLog, IsRunnableCert, IsGoodVector, IsAdmittable, CanRun, IsGood, IsExcessive}
 use Rattle.mp_cli.specs.Ends.{Means}
 use Rattle.mp_cli.specs.Opening.{Reads, RefusesNetwork, RefusesText}
@@ -222,12 +222,12 @@ run_ends n (RunWith net cert) P outcome ports quiet good means stream =
 run_ends n command P outcome ports quiet good means stream = absurd good
 
 -- a whole log does not differ
-compared : (outcome : Outcome) (net : Network) (ports : Ports) (num den : ℕ) (bounds : List ℕ) → IsQuiet outcome → IsGoodLog net ports.input_before → IsGreatestSlack net num den → AreBounds net num den bounds → Compares outcome net ports num den bounds → EndsIn 0 outcome
-compared (Differs n) net ports num den bounds quiet log greatest are compares =
+compared : (outcome : Outcome) (net : Network) (ports : Ports) (P : ℕ → ℕ → Type 0) (num den : ℕ) (bounds : List ℕ) → IsQuiet outcome → IsGoodLog net P ports.input_before → P num den → AreBounds net num den bounds → Compares outcome net ports num den bounds → EndsIn 0 outcome
+compared (Differs n) net ports P num den bounds quiet log is are compares =
     let told = subst (λ (l : Option (List ℕ)). Tells l ports.input_after (λ text now. DiffersAt net num den bounds text n)) log.told compares.0 in
-    absurd (told.2.not_whole (log.whole num den bounds greatest are))
-compared Read net ports num den bounds quiet log greatest are compares = absurd (quiet.read refl)
-compared outcome net ports num den bounds quiet log greatest are compares = written_done outcome ports (audit_line compares.periods) quiet compares.written
+    absurd (told.2.not_whole (log.whole num den bounds is are))
+compared Read net ports P num den bounds quiet log is are compares = absurd (quiet.read refl)
+compared outcome net ports P num den bounds quiet log is are compares = written_done outcome ports (audit_line compares.periods) quiet compares.written
 
 pub completes : (command : Command) (outcome : Outcome) (ports : Ports) → IsQuiet outcome → IsGood command ports.files ports.input_before → Means command outcome ports → EndsIn 0 outcome
 completes (Run net) outcome ports quiet good means = run_ends 0 (Run net) (λ n. IsGoodStream n ports.input_before) outcome ports quiet good means (λ n num den bounds stream ends. good_stream outcome n ports num den bounds quiet stream ends)
@@ -256,7 +256,15 @@ completes (Audit net) outcome ports quiet good means =
     goes 0 outcome on.1 (verdict_memory outcome good.value good.is.0.admitted) (λ admitted.
     goes 0 outcome (of_admitted good.value _ good.is.0.admitted admitted) (opening_memory outcome good.value good.is.0.admitted.cert good.is.0.under) (λ opens.
     let under = opens.holds.holds in
-    compared outcome good.value ports opens.holds.num opens.holds.den under.bounds quiet good.is.1 under.is.0 under.are under.is.1)))
+    compared outcome good.value ports (IsGreatestSlack good.value) opens.holds.num opens.holds.den under.bounds quiet good.is.1 under.is.0 under.are under.is.1)))
+completes (AuditWith net cert) outcome ports quiet good means =
+    goes 0 outcome means (network_memory outcome ports.files net _ quiet good) (λ reads.
+    let on = of_good file_meaning ports.files net _ _ good reads in
+    let given = good.is.file in
+    goes 0 outcome on.1 (text_memory outcome _ (cert_meaning good.value) ports.files cert _ quiet good.is) (λ read.
+    goes 0 outcome (of_good (cert_meaning good.value) ports.files cert _ _ given read) (session_memory outcome good.value given.value given.is.0) (λ opens.
+    let under = opens.holds.holds in
+    compared outcome good.value ports (IsSlack given.value) opens.holds.num opens.holds.den under.bounds quiet given.is.1 opens.holds.slack under.are under.is)))
 completes (Demo n) outcome ports quiet good means =
     goes 0 outcome means (λ is. verdict_memory outcome (demo_network n) good.admitted (unfinished outcome (demo_network n) is)) (λ admitted.
     goes 0 outcome (of_admitted (demo_network n) _ good.admitted admitted) (opening_memory outcome (demo_network n) good.admitted.cert good.under) (λ opens.

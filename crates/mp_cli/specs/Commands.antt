@@ -16,6 +16,7 @@ pub data Command : Type 0 where
   Check : List ℕ → List ℕ → Command
   Refute : List ℕ → List ℕ → Command
   Audit : List ℕ → Command
+  AuditWith : List ℕ → List ℕ → Command
   Demo : ℕ → Command
   Scale : List ℕ → ℕ → Command
   Unknown : Command
@@ -29,6 +30,7 @@ asked (said.Certify net) = Certify net.now
 asked (said.Check net cert) = Check net.now cert.now
 asked (said.Refute net vector) = Refute net.now vector.now
 asked (said.Audit net) = Audit net.now
+asked (said.AuditWith net cert) = AuditWith net.now cert.now
 asked (said.Demo n) = Demo n
 asked (said.Scale net d) = Scale net.now d
 asked said.Unknown = Unknown
@@ -70,6 +72,7 @@ command_on_one word net =
 unfoldable pub command_on_two : List ℕ → List ℕ → List ℕ → Command
 command_on_two word net other =
     if is_word word (codes "runwith") then RunWith net other
+    else if is_word word (codes "auditwith") then AuditWith net other
     else if is_word word (codes "check") then Check net other
     else if is_word word (codes "refute") then Refute net other
     else if is_word word (codes "scale") then scale_of net other
@@ -98,5 +101,7 @@ file_of (Check net cert) Other = cert
 file_of (Refute net vector) Net = net
 file_of (Refute net vector) Other = vector
 file_of (Audit net) Net = net
+file_of (AuditWith net cert) Net = net
+file_of (AuditWith net cert) Other = cert
 file_of (Scale net d) Net = net
 file_of command role = []

@@ -6,7 +6,7 @@ use Rattle.mp_model.specs.Bounds.{AreBounds}
 use Rattle.mp_model.specs.Certificate.{Cert}
 use Rattle.mp_model.specs.Load.{ShowsOverload, IsTight}
 use Rattle.mp_model.specs.Network.{Network}
-use Rattle.mp_model.specs.Slack.{IsGreatestSlack}
+use Rattle.mp_model.specs.Slack.{IsSlack, IsGreatestSlack}
 use Rattle.mp_model.specs.Stream.{LineKind, arrivals_of_kinds}
 use Rattle.mp_model.specs.WholeLog.{IsWholeLog}
 use Rattle.mp_model.specs.declared.limits.TheConstants.{MOST_FILE_BYTES, MOST_LINES}
@@ -20,7 +20,7 @@ use Rattle.mp_run.specs.Running.{StartsWith, IsAboveAt}
 use Rattle.mp_trial.specs.Search.{scaled, Found}
 use Rattle.mp_verdict.specs.Stated.{Reached}
 use Rattle.mp_verdict.specs.Verdict.{verdict, Admitted}
-use Rattle.mp_cli.specs.Commands.{Command, Run, RunWith, Show, Certify, Check, Refute, Audit, Demo, Scale, Unknown}
+use Rattle.mp_cli.specs.Commands.{Command, Run, RunWith, Show, Certify, Check, Refute, Audit, AuditWith, Demo, Scale, Unknown}
 use Rattle.mp_cli.specs.Ports.{Files}
 use Rattle.mp_cli.specs.Refuting.{IsFormed}
 use Rattle.mp_cli.specs.Sessions.{HasBounds}
@@ -60,11 +60,11 @@ pub record IsExcessiveStream (net : Network) (left : Option (List ℕ)) : Type 0
   pub link : ℕ
   pub above : IsAboveAt net text line period link
 
--- The input is told, and is a whole log of the network with the greatest slack and the bounds under it.
-pub record IsGoodLog (net : Network) (left : Option (List ℕ)) : Type 0 where
+-- The input is told, and is a whole log of the network with the slack that the fact is true of and the bounds under it.
+pub record IsGoodLog (net : Network) (P : ℕ → ℕ → Type 0) (left : Option (List ℕ)) : Type 0 where
   pub text : List ℕ
   pub told : left ≡ Some text
-  pub whole : (num den : ℕ) (bounds : List ℕ) → IsGreatestSlack net num den → AreBounds net num den bounds → IsWholeLog net num den bounds text
+  pub whole : (num den : ℕ) (bounds : List ℕ) → P num den → AreBounds net num den bounds → IsWholeLog net num den bounds text
 
 -- No calculation of the check of a certificate or of its bounds exceeds 128 bits, the certificate keeps all rules, and there is room for the bounds.
 pub record IsRunnableCert (net : Network) (cert : Cert) : Type 0 where
@@ -102,7 +102,8 @@ IsGood (Show net) files left = IsGoodFile file_meaning files net (λ n. Unit {0}
 IsGood (Certify net) files left = IsGoodFile file_meaning files net IsAdmittable
 IsGood (Check net cert) files left = IsGoodFile file_meaning files net (λ n. IsGoodText (cert_meaning n) files cert (λ c. check_outcome n c ≡ Ok tt))
 IsGood (Refute net vector) files left = IsGoodFile file_meaning files net (λ n. IsGoodText (vector_meaning n) files vector (IsGoodVector n))
-IsGood (Audit net) files left = IsGoodFile file_meaning files net (λ n. IsRunnable n × IsGoodLog n left)
+IsGood (Audit net) files left = IsGoodFile file_meaning files net (λ n. IsRunnable n × IsGoodLog n (IsGreatestSlack n) left)
+IsGood (AuditWith net cert) files left = IsGoodFile file_meaning files net (λ n. IsGoodText (cert_meaning n) files cert (λ c. IsRunnableCert n c × IsGoodLog n (IsSlack c) left))
 IsGood (Demo n) files left = IsRunnable (demo_network n)
 IsGood (Scale net d) files left = IsGoodFile file_meaning files net (λ n. (cert : Cert) × (scaled n d ≡ Found cert))
 IsGood Unknown files left = ⊥

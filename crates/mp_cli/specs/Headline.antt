@@ -13,7 +13,7 @@ use Rattle.mp_gen.specs.DemoNetwork.{demo_network}
 use Rattle.mp_netfile.specs.Meaning.{file_meaning}
 use Rattle.mp_run.specs.Running.{Finished}
 use Rattle.mp_cli.specs.declared.outcome.Outcome.TheVariants.{Done}
-use Rattle.mp_cli.specs.Commands.{Command, Run, RunWith, Show, Certify, Check, Refute, Audit, Demo, Scale, Unknown}
+use Rattle.mp_cli.specs.Commands.{Command, Run, RunWith, Show, Certify, Check, Refute, Audit, AuditWith, Demo, Scale, Unknown}
 use Rattle.mp_cli.specs.Opening.{Reads}
 use Rattle.mp_cli.specs.Ports.{Ports}
 use Rattle.mp_cli.specs.Sessions.{HoldsWith, HoldsWithGreatest}
@@ -39,6 +39,7 @@ Does (Certify net) ports = Reads file_meaning ports.files net (λ n. (cert : Cer
 Does (Check net cert) ports = Reads file_meaning ports.files net (λ n. Reads (cert_meaning n) ports.files cert (AcceptsCert Done n ports))
 Does (Refute net vector) ports = Reads file_meaning ports.files net (λ n. Reads (vector_meaning n) ports.files vector (λ p. SpeaksAgainst Done n ports (naturals p)))
 Does (Audit net) ports = Reads file_meaning ports.files net (λ n. HoldsWithGreatest n (IsShownWhole Done n ports))
+Does (AuditWith net cert) ports = Reads file_meaning ports.files net (λ n. Reads (cert_meaning n) ports.files cert (HoldsWith n (IsShownWhole Done n ports)))
 Does (Demo n) ports = HoldsWithGreatest (demo_network n) (IsShownRun Done (demo_network n) n ports)
 Does (Scale net d) ports = Reads file_meaning ports.files net (λ n. (cert : Cert) × WritesScaled Done n d ports cert)
 Does Unknown ports = ⊥
@@ -71,6 +72,7 @@ OfNetwork (Certify net) ports P = Reads file_meaning ports.files net P
 OfNetwork (Check net cert) ports P = Reads file_meaning ports.files net P
 OfNetwork (Refute net vector) ports P = Reads file_meaning ports.files net P
 OfNetwork (Audit net) ports P = Reads file_meaning ports.files net P
+OfNetwork (AuditWith net cert) ports P = Reads file_meaning ports.files net P
 OfNetwork (Demo n) ports P = P (demo_network n)
 OfNetwork (Scale net d) ports P = Reads file_meaning ports.files net P
 OfNetwork Unknown ports P = ⊥

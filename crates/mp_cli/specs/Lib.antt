@@ -13,6 +13,7 @@ pub mod Certifying
 pub mod Checking
 pub mod Refuting
 pub mod Auditing
+pub mod AuditingWith
 pub mod Demonstrating
 pub mod Scaling
 pub mod Ends

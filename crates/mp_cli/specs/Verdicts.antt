@@ -1,5 +1,5 @@
 -- The verdict on a network, as the stated calculation finds it.
-use Rattle.std.specs.Prelude.{◌≡◌, ℕ, ℤ, List, map, unsigned_abs}
+use Rattle.std.specs.Prelude.{◌≡◌, ℕ, ℤ, List}
 use Rattle.mp_model.specs.Certificate.{Cert, Certifies, Carries}
 use Rattle.mp_model.specs.Load.{ShowsOverload, IsTight, IsCritical}
 use Rattle.mp_model.specs.Network.{Network}

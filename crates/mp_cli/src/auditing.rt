@@ -30,8 +30,8 @@ fn put_whole<Out: Sink>(out: &mut Out, periods: u64) -> Result<(), Failed>
     out.put(line.bytes())
 }
 
-// Compares the input with the log under a certificate.
-fn audit_under<In: Source, Out: Sink>(
+/// Compares the input with the log under a certificate.
+pub fn audit_under<In: Source, Out: Sink>(
     alloc: Global,
     net: &Net,
     cert: &Cert,

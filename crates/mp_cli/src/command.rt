@@ -22,6 +22,8 @@ pub enum Command<'a> {
     Refute { net: &'a str, vector: &'a str },
     /// `audit NET`: whether the input is a whole log of the network, or the first line that differs.
     Audit { net: &'a str },
+    /// `auditwith NET CERT`: the same, of the log with the slack of the certificate.
+    AuditWith { net: &'a str, cert: &'a str },
     /// `demo N`: a long run on a network of the program's own, by its number of at most 9 digits.
     Demo(u64),
     /// `scale NET D`: the greatest certificate with the denominator D, of at most 9 digits.
@@ -88,6 +90,8 @@ fn command_on_two<'a>(word: &str, net: &'a str, other: &'a str) -> Command<'a>
 {
     if is_word(word, "runwith") {
         Command::RunWith { net, cert: other }
+    } else if is_word(word, "auditwith") {
+        Command::AuditWith { net, cert: other }
     } else if is_word(word, "check") {
         Command::Check { net, cert: other }
     } else if is_word(word, "refute") {
@@ -117,10 +121,12 @@ pub fn file_of<'a>(command: Command<'a>, role: FileRole) -> &'a str
 {
     match (role, command) {
         (FileRole::Other, Command::RunWith { cert, .. } | Command::Check { cert, .. }) => cert,
+        (FileRole::Other, Command::AuditWith { cert, .. }) => cert,
         (FileRole::Other, Command::Refute { vector, .. }) => vector,
         (FileRole::Net, Command::Run { net } | Command::Show { net }) => net,
         (FileRole::Net, Command::Certify { net } | Command::Audit { net }) => net,
         (FileRole::Net, Command::RunWith { net, .. } | Command::Check { net, .. }) => net,
+        (FileRole::Net, Command::AuditWith { net, .. }) => net,
         (FileRole::Net, Command::Refute { net, .. } | Command::Scale { net, .. }) => net,
         _ => "",
     }

@@ -2,6 +2,7 @@
 #![tactic(auto)]
 
 mod auditing;
+mod auditing_with;
 mod certifying;
 mod checking;
 mod command;

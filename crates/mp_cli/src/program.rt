@@ -8,6 +8,7 @@ ghost use Rattle.mp_cli.specs.Headline.{Does, OfNetwork, KeepsPromise};
 ghost use Rattle.mp_cli.specs.Statuses.{status_of};
 
 use crate::auditing::audit;
+use crate::auditing_with::audit_with;
 use crate::certifying::certify;
 use crate::checking::check;
 use crate::command::{Command, command_of};
@@ -44,6 +45,7 @@ fn obey<St: Store, In: Source, Out: Sink>(
         Command::Check { net, cert } => check(alloc, net, cert, store, out),
         Command::Refute { net, vector } => refute(alloc, net, vector, store, out),
         Command::Audit { net } => audit(alloc, net, store, input, out),
+        Command::AuditWith { net, cert } => audit_with(alloc, net, cert, store, input, out),
         Command::Demo(n) => demo(alloc, n, out),
         Command::Scale { net, d } => scale(alloc, net, d, store, out),
         Command::Unknown => Outcome::Words,
@@ -57,8 +59,9 @@ fn obey<St: Store, In: Source, Out: Sink>(
 /// certificate; `show NET` writes the network as a file; `certify NET` writes the certificate of the
 /// greatest slack; `check NET CERT` writes the slack of a certificate that holds; `refute NET VECTOR`
 /// writes the load and the capacity of a vector that speaks against the network; `audit NET` writes the
-/// number of periods of the log on `input`, where it is a whole one; `demo N` writes the summary of a
-/// long run on a network of its own; `scale NET D` writes the greatest certificate over a denominator.
+/// number of periods of the log on `input`, where it is a whole one; `auditwith NET CERT` takes the slack
+/// of a certificate; `demo N` writes the summary of a long run on a network of its own; `scale NET D`
+/// writes the greatest certificate over a denominator.
 ///
 /// Every status but 0 has its line on `err`, whose faults are ignored: 1 for words that are not listed,
 /// 2 for a fault of the store, 3 for the first rule that the network file breaks and for another file
