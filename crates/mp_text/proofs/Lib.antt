@@ -4,3 +4,4 @@ pub mod Digits
 pub mod Filling
 pub mod Lines
 pub mod RawLines
+pub mod Spaces

@@ -2,3 +2,4 @@ pub mod Bigs
 pub mod Buffered
 pub mod Cut
 pub mod Cutting
+pub mod Spaced

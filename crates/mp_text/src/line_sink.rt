@@ -1,9 +1,10 @@
 //! A sink over a fixed buffer, for one line.
-ghost use Rattle.std.specs.Prelude.{◌≡◌, ◌≤◌, ◌<◌, ◌+◌, ◌++◌, ◌↔◌, [], length, IsErr, OnOk, OnErr, Some};
+ghost use Rattle.std.specs.Prelude.{◌≡◌, ◌≤◌, ◌<◌, ◌+◌, ◌++◌, ◌∷◌, ◌↔◌, [], decimal, length, IsErr, OnOk, OnErr, Some};
 ghost use Rattle.mp_edge.specs.Outside.{next_count, Tells, Puts, HasCause};
 ghost use Rattle.mp_model.specs.declared.limits.TheConstants.{MOST_LOG_LINE_BYTES};
 ghost use Rattle.mp_text.specs.Buffered.{Buffered};
 
+use crate::small_numbers::{SMALL_NUMBERS, SPACED_SIZE, SmallNumbers};
 use mp_edge::{Failed, Sink};
 use mp_model::limits::MOST_LOG_LINE_BYTES;
 use std::marker::Model;
@@ -53,6 +54,19 @@ impl LineSink {
         ensures { self.new ≡ record self.old { held = [] } }
     {
         self.len = 0;
+    }
+
+    /// Appends a space and the digits of a small number, where the 4 bytes of a copy fit.
+    #[inline]
+    pub fn push_small(&mut self, small: &SmallNumbers, number: usize)
+        requires small { number < SMALL_NUMBERS }
+        requires room { length self.old.held + SPACED_SIZE ≤ MOST_LOG_LINE_BYTES }
+        ensures { self.new ≡ record self.old { held = self.old.held ++ 32 ∷ decimal number } }
+    {
+        let spaced = small.get(number);
+        let end = self.len + SPACED_SIZE;
+        self.buf[self.len..end].copy_from_slice(&spaced.text);
+        self.len += usize::from(spaced.len);
     }
 }
 
