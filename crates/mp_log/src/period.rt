@@ -8,13 +8,14 @@ ghost use Rattle.mp_log.specs.Fitting.{FitsLine};
 use crate::line::{push_number, push_spaced, push_text};
 use mp_edge::{Failed, Sink};
 use mp_net::StageNo;
-use mp_text::LineSink;
+use mp_text::{LineSink, SmallNumbers};
 
 /// Appends the line of a period without its line feed to an empty buffer: its number from 1, the
 /// arrivals of the fed links in link order, the stages of the junctions in junction order, and the
 /// queues of the movements in movement order after the period.
 pub fn push_period(
     line: &mut LineSink,
+    small: &SmallNumbers,
     period: u64,
     arrivals: &[u64],
     stages: &[StageNo],
@@ -28,16 +29,17 @@ pub fn push_period(
     push_text(line, b"p ");
     push_number(line, period);
     push_text(line, b" a");
-    push_spaced(line, arrivals);
+    push_spaced(line, small, arrivals);
     push_text(line, b" s");
-    push_spaced(line, stages);
+    push_spaced(line, small, stages);
     push_text(line, b" q");
-    push_spaced(line, queues);
+    push_spaced(line, small, queues);
 }
 
-/// Puts the line of a period as `put_period` does, in a buffer that serves one line after another.
+/// Puts the line of a period as `put_period` does, in a buffer and by a table that serve one line after another.
 pub fn put_period_in<K: Sink>(
     line: &mut LineSink,
+    small: &SmallNumbers,
     out: &mut K,
     period: u64,
     arrivals: &[u64],
@@ -49,7 +51,7 @@ pub fn put_period_in<K: Sink>(
     ensures cause { HasCause (K.faults out.old) (K.faults out.new) result }
 {
     line.clear();
-    push_period(line, period, arrivals, stages, queues);
+    push_period(line, small, period, arrivals, stages, queues);
     push_text(line, b"\n");
     out.put(line.bytes())
 }
@@ -68,5 +70,13 @@ pub fn put_period<K: Sink>(
     ensures bytes { (counts : List ℕ) → queues.now ≡ map pos counts → Tells (K.held out.old) (K.held out.new) (Puts result (period_line period arrivals.now stages.now counts ++ 10 ∷ [])) }
     ensures cause { HasCause (K.faults out.old) (K.faults out.new) result }
 {
-    put_period_in(&mut LineSink::new(), out, period, arrivals, stages, queues)
+    put_period_in(
+        &mut LineSink::new(),
+        &SmallNumbers::new(),
+        out,
+        period,
+        arrivals,
+        stages,
+        queues,
+    )
 }

@@ -16,7 +16,7 @@ use mp_drift::Session;
 use mp_edge::Source;
 use mp_log::{header_lines, push_end, push_header_line, push_period, read_arrivals};
 use mp_model::limits::{MOST_LINES, MOST_LOG_LINE_BYTES};
-use mp_text::{LineCutter, LineSink, LineStep};
+use mp_text::{LineCutter, LineSink, LineStep, SmallNumbers};
 
 /// The size of a buffer for lines of a log, each with its line feed.
 const LOG_LINE_SIZE: usize = MOST_LOG_LINE_BYTES + 1;
@@ -125,7 +125,13 @@ fn next_arrivals(session: &Session, line: &[u8], arrivals: &mut ArrayVec<u64, 12
 }
 
 // Closes the next period with these arrivals, and says whether the line is that of the period.
-fn is_period(session: &mut Session, line: &[u8], arrivals: &[u64], wanted: &mut LineSink) -> bool
+fn is_period(
+    session: &mut Session,
+    line: &[u8],
+    arrivals: &[u64],
+    wanted: &mut LineSink,
+    small: &SmallNumbers,
+) -> bool
     requires counts { HasCounts session.old.net arrivals.now }
     requires digits { All (λ a. a < 10 ^ 9) arrivals.now }
     requires period { session.old.at.period < MOST_LINES }
@@ -137,8 +143,9 @@ fn is_period(session: &mut Session, line: &[u8], arrivals: &[u64], wanted: &mut 
     }
     let state = session.state();
     let stages = session.stages();
+    let queues = state.queues();
     wanted.clear();
-    push_period(wanted, state.period(), arrivals, stages, state.queues());
+    push_period(wanted, small, state.period(), arrivals, stages, queues);
     is_same(line, wanted.bytes())
 }
 
@@ -165,13 +172,14 @@ fn take_logged(
     line: &[u8],
     arrivals: &mut ArrayVec<u64, 128>,
     wanted: &mut LineSink,
+    small: &SmallNumbers,
 ) -> Logged
     ensures takes { TakesLogged session.old.net line.now result session.old.at session.new.at }
     ensures same { session.new ≡ record session.old { at = session.new.at; stages = session.new.stages } }
 {
     let _ = session.net().shares();
     if next_arrivals(session, line, arrivals) {
-        if is_period(session, line, arrivals, wanted) {
+        if is_period(session, line, arrivals, wanted, small) {
             Logged::Period
         } else {
             Logged::Other
@@ -190,6 +198,7 @@ fn take_next<In: Source>(
     cutter: &mut LineCutter<LOG_LINE_SIZE>,
     arrivals: &mut ArrayVec<u64, 128>,
     wanted: &mut LineSink,
+    small: &SmallNumbers,
 ) -> Logged
     ensures takes { Tells (In.left input.old) (In.left input.new) (TakesNext session.old.net result session.old.at cutter.old cutter.new) }
     ensures moves { MovesOn session.old.net cutter.new.line result session.old.at session.new.at }
@@ -199,7 +208,7 @@ fn take_next<In: Source>(
 {
     let _ = session.state();
     match cutter.next(input) {
-        LineStep::Line => take_logged(session, cutter.line(), arrivals, wanted),
+        LineStep::Line => take_logged(session, cutter.line(), arrivals, wanted, small),
         LineStep::End => Logged::Other,
         LineStep::TooLong => Logged::Other,
         LineStep::Failed => Logged::Failed,
@@ -231,6 +240,7 @@ fn audit_periods<In: Source>(
     input: &mut In,
     cutter: &mut LineCutter<LOG_LINE_SIZE>,
     wanted: &mut LineSink,
+    small: &SmallNumbers,
 ) -> AuditEnd
     requires start { Stands session.old.net session.old.at (opening session.old.net) }
     requires taken { HasTaken session.old.net session.old.at [] }
@@ -244,7 +254,7 @@ fn audit_periods<In: Source>(
     loop {
         let period = session.state().period();
         let line = header + period + 1;
-        match take_next(session, input, cutter, &mut arrivals, wanted) {
+        match take_next(session, input, cutter, &mut arrivals, wanted, small) {
             Logged::Period => {}
             Logged::End => return finish_audit(input, cutter, period, line + 1),
             Logged::Other => return AuditEnd::Differs { line },
@@ -277,5 +287,6 @@ pub fn audit<In: Source>(session: &mut Session, input: &mut In) -> AuditEnd
     if let Some(end) = audit_header(session, input, &mut cutter, &mut wanted) {
         return end;
     }
-    audit_periods(session, input, &mut cutter, &mut wanted)
+    let small = SmallNumbers::new();
+    audit_periods(session, input, &mut cutter, &mut wanted, &small)
 }

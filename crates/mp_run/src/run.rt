@@ -18,7 +18,7 @@ use mp_log::{StreamLine, put_end, put_period_in, read_line};
 use mp_model::limits::{MOST_LINES, MOST_STREAM_LINE_BYTES};
 use mp_net::LinkNo;
 use mp_step::AboveAt;
-use mp_text::{LineCutter, LineSink, LineStep};
+use mp_text::{LineCutter, LineSink, LineStep, SmallNumbers};
 
 /// The size of a buffer for lines of a stream, each with its line feed.
 const STREAM_LINE_SIZE: usize = MOST_STREAM_LINE_BYTES + 1;
@@ -58,6 +58,7 @@ fn close_period<Out: Sink>(
     line: u64,
     arrivals: &[u64],
     text: &mut LineSink,
+    small: &SmallNumbers,
     out: &mut Out,
 ) -> Option<RunEnd>
     requires counts { HasCounts session.old.net arrivals.now }
@@ -77,7 +78,9 @@ fn close_period<Out: Sink>(
         Ok(()) => {
             let state = session.state();
             let stages = session.stages();
-            match put_period_in(text, out, state.period(), arrivals, stages, state.queues()) {
+            let period = state.period();
+            let queues = state.queues();
+            match put_period_in(text, small, out, period, arrivals, stages, queues) {
                 Ok(()) => None,
                 Err(Failed) => Some(RunEnd::Write),
             }
@@ -92,6 +95,7 @@ fn take_line<Out: Sink>(
     number: u64,
     arrivals: &mut ArrayVec<u64, 128>,
     text: &mut LineSink,
+    small: &SmallNumbers,
     out: &mut Out,
 ) -> Option<RunEnd>
     requires period { session.old.at.period < MOST_LINES }
@@ -104,7 +108,7 @@ fn take_line<Out: Sink>(
     match read_line(session.net(), line, arrivals) {
         StreamLine::Skipped => None,
         StreamLine::Bad => Some(RunEnd::Grammar { line: number }),
-        StreamLine::Arrivals => close_period(session, number, arrivals, text, out),
+        StreamLine::Arrivals => close_period(session, number, arrivals, text, small, out),
     }
 }
 
@@ -156,6 +160,7 @@ pub fn run_stream<In: Source, Out: Sink>(
     let mut cutter = LineCutter::<STREAM_LINE_SIZE>::new();
     let mut arrivals = ArrayVec::new();
     let mut text = LineSink::new();
+    let small = SmallNumbers::new();
     for turn in 0..MOST_LINES {
         match cutter.next(input) {
             LineStep::Line => {
@@ -166,6 +171,7 @@ pub fn run_stream<In: Source, Out: Sink>(
                     turn + 1,
                     &mut arrivals,
                     &mut text,
+                    &small,
                     out,
                 ) {
                     return end;

@@ -6,22 +6,22 @@ use Rattle.mp_run.proofs.run.close_period.Goals as goal
 
 pub put_period_in-requires : goal.put_period_in-requires
 put_period_in-requires g c =
-    closed_line_fits c.args.session.now c.period.new.self c.state-state.ensures.bounded c.in-Ok.ensures.same c.in-Ok.ensures.stages c.state-state.result.now c.period-in-Ok.result c.args.arrivals.now c.stages-stages.result.now c.queues.result.now
-    c.state-state.ensures.value c.stages-stages.ensures c.requires.counts c.requires.digits c.period-in-Ok.ensures.few
-    (signed_is c.queues.result.now c.state-state.result.now.queues c.queues.ensures.counts.none_negative c.queues.ensures.value) c.queues.ensures.few
+    closed_line_fits c.args.session.now c.period.new.self c.state-state.ensures.bounded c.in-Ok.ensures.same c.in-Ok.ensures.stages c.state-state.result.now c.period-period-in-Ok.result c.args.arrivals.now c.stages-stages.result.now c.queues-queues.result.now
+    c.state-state.ensures.value c.stages-stages.ensures c.requires.counts c.requires.digits c.period-period-in-Ok.ensures.few
+    (signed_is c.queues-queues.result.now c.state-state.result.now.queues c.queues-queues.ensures.counts.none_negative c.queues-queues.ensures.value) c.queues-queues.ensures.few
 
 pub returns-in-Ok-put_period_in-clause-takes : goal.returns-in-Ok-put_period_in-clause-takes
 returns-in-Ok-put_period_in-clause-takes g c =
     let at = c.state-state.ensures.value in
-    let queues : c.queues.result.now ≡ map pos c.period.new.self.at.queues =
-    signed_is c.queues.result.now c.period.new.self.at.queues c.queues.ensures.counts.none_negative (c.queues.ensures.value ∙ ap (λ (st : Standing). st.queues) at) in
-    closes_period c.args.session.now.net c.args.arrivals.now c.stages-stages.result.now c.args.session.now.at c.period.new.self.at c.period-in-Ok.result c.args.line _ _ (c.stages-stages.ensures ∙ c.in-Ok.ensures.stages)
-    c.in-Ok.ensures.taken c.in-Ok.ensures.step (c.period-in-Ok.ensures.value ∙ ap (λ (st : Standing). st.period) at) (c.in-Ok-put_period_in.ensures.bytes c.period.new.self.at.queues queues)
+    let queues : c.queues-queues.result.now ≡ map pos c.period.new.self.at.queues =
+    signed_is c.queues-queues.result.now c.period.new.self.at.queues c.queues-queues.ensures.counts.none_negative (c.queues-queues.ensures.value ∙ ap (λ (st : Standing). st.queues) at) in
+    closes_period c.args.session.now.net c.args.arrivals.now c.stages-stages.result.now c.args.session.now.at c.period.new.self.at c.period-period-in-Ok.result c.args.line _ _ (c.stages-stages.ensures ∙ c.in-Ok.ensures.stages)
+    c.in-Ok.ensures.taken c.in-Ok.ensures.step (c.period-period-in-Ok.ensures.value ∙ ap (λ (st : Standing). st.period) at) (c.in-Ok-put_period_in.ensures.bytes c.period.new.self.at.queues queues)
 
 pub returns-in-Err-put_period_in-clause-takes : goal.returns-in-Err-put_period_in-clause-takes
 returns-in-Err-put_period_in-clause-takes g c =
     let at = c.state-state.ensures.value in
-    let queues : c.queues.result.now ≡ map pos c.period.new.self.at.queues =
-    signed_is c.queues.result.now c.period.new.self.at.queues c.queues.ensures.counts.none_negative (c.queues.ensures.value ∙ ap (λ (st : Standing). st.queues) at) in
-    cuts_period c.args.session.now.net c.args.arrivals.now c.stages-stages.result.now c.args.session.now.at c.period.new.self.at c.period-in-Ok.result c.args.line _ _ (c.stages-stages.ensures ∙ c.in-Ok.ensures.stages)
-    c.in-Ok.ensures.taken c.in-Ok.ensures.step (c.period-in-Ok.ensures.value ∙ ap (λ (st : Standing). st.period) at) (c.in-Err-put_period_in.ensures.bytes c.period.new.self.at.queues queues)
+    let queues : c.queues-queues.result.now ≡ map pos c.period.new.self.at.queues =
+    signed_is c.queues-queues.result.now c.period.new.self.at.queues c.queues-queues.ensures.counts.none_negative (c.queues-queues.ensures.value ∙ ap (λ (st : Standing). st.queues) at) in
+    cuts_period c.args.session.now.net c.args.arrivals.now c.stages-stages.result.now c.args.session.now.at c.period.new.self.at c.period-period-in-Ok.result c.args.line _ _ (c.stages-stages.ensures ∙ c.in-Ok.ensures.stages)
+    c.in-Ok.ensures.taken c.in-Ok.ensures.step (c.period-period-in-Ok.ensures.value ∙ ap (λ (st : Standing). st.period) at) (c.in-Err-put_period_in.ensures.bytes c.period.new.self.at.queues queues)
