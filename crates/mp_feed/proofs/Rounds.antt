@@ -1,16 +1,13 @@
 -- A table of one round gives the split of any number of vehicles.
-use Rattle.std.proofs.Common.{◌≡◌, ◌==◌, ◌≤◌, ◌<◌, ℕ, zero, suc, ◌+◌, ◌*◌, ◌/◌, ◌%◌, Bool, true, false, cond, List, [], ◌∷◌, ◌++◌, length, get_or, sum, sum_by, map, slice_index, ℤ, ◌<ℤ◌, ◌≤ℤ◌, int_lt, arith, refl, sym, ◌∙◌, ap, ap₂, add-one, eq-eqb, ne_eqb, subst, set, mul-le-mul, ◌⊎◌, inl, inr, ⊎_elim, le_refl, ◌^◌, mod-lt}
+use Rattle.std.proofs.Common.{◌≡◌, ◌==◌, ◌≤◌, ◌<◌, ℕ, zero, suc, ◌+◌, ◌*◌, ◌/◌, ◌%◌, Bool, true, false, cond, List, [], ◌∷◌, ◌++◌, length, get_or, sum, sum_by, slice_index, ℤ, ◌<ℤ◌, ◌≤ℤ◌, int_lt, arith, refl, sym, ◌∙◌, ap, ap₂, add-one, eq-eqb, ne_eqb, subst, set, mul-le-mul, ◌⊎◌, inl, inr, ⊎_elim, le_refl, ◌^◌, mod-lt}
 use Rattle.std.proofs.lemmas.Bool.{cases_lt}
 use Rattle.std.specs.List.{range_with_len, AllByRecursion, best_of, All}
 use Rattle.std.proofs.lemmas.Int.{ints}
 use Rattle.std.proofs.lemmas.Nat.{div-add-mod'}
 use Rattle.std.proofs.lemmas.List.Sums.{fold_push}
-use Rattle.std.proofs.lemmas.List.FromFn.{get_or-map-range_with_len}
 use Rattle.std.proofs.lemmas.List.{get_or_at, get_or_append_left, get_or-append-add, length-append, append_assoc}
 use Rattle.std.proofs.lemmas.List.Sums.{sum_by-cons, get_or-le-sum_by}
 use Rattle.std.proofs.lemmas.Grind.{common_steps}
-use Rattle.std.proofs.lemmas.List.FromFn.{length-map-range_with_len}
-use Rattle.std.proofs.Math.Nat.{mod_self, mod-eq_of_lt, mod-add-mod}
 use borrow.Author.Differences.{true_is_lt, false_is_lt}
 use Rattle.mp_model.specs.Split.{first_greatest, credit_of}
 use Rattle.mp_laws.proofs.Credits.{again, some_length}

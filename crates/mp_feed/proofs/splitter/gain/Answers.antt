@@ -1,4 +1,4 @@
-use Rattle.std.proofs.Common.{◌≡◌, ◌<◌, ◌+◌, ◌%◌, slice_index, arith, length, ap₂}
+use Rattle.std.proofs.Common.{◌+◌, ◌%◌, slice_index, length, ap₂}
 use Rattle.std.proofs.lemmas.List.FromFn.{fill_by_all}
 use Rattle.mp_feed.specs.Counts.{gained}
 use Rattle.mp_feed.proofs.Rounds.{gain_within, gain_is}
