@@ -10,7 +10,7 @@ use Rattle.mp_laws.proofs.Lists.{eqb-flip, at_in, each_in, numbered}
 use Rattle.mp_laws.proofs.Credits.{counted, grows}
 use Rattle.mp_step.specs.OpenStep.{ArePasses}
 
-exact_at : (x : ℕ) (g : ℕ → ℕ) (ls : List ℕ) → IsDistinct ◌==◌ ls → has ls x ≡ true → sum_by (λ l. cond (x == l) (g l) 0) ls ≡ g x
+pub exact_at : (x : ℕ) (g : ℕ → ℕ) (ls : List ℕ) → IsDistinct ◌==◌ ls → has ls x ≡ true → sum_by (λ l. cond (x == l) (g l) 0) ls ≡ g x
 exact_at x g ls d h = le_antisymm (one_at x g ls d) (there g x ls h)
 
 -- a sum over the movements, link by link

@@ -6,5 +6,6 @@ pub mod Entering
 pub mod Taking
 pub mod SamePasses
 pub mod Conserving
+pub mod Greens
 pub mod Closing
 pub mod Following

@@ -1,6 +1,7 @@
 -- What a period does at a link.
-use Rattle.std.proofs.Common.{◌≡◌, ◌==◌, ◌≤◌, ◌<◌, ℕ, zero, suc, ◌+◌, ◌-◌, ◌^◌, ◌&&◌, Bool, true, false, cond, min, List, [], ◌∷◌, length, get_or, set, drop, map, sum, sum_by, slice_index, None, Some, nat_lt, arith, refl, sym, ◌∙◌, ap, ap₂, eqb-true, eq-eqb, ne_eqb, add-one, drop-cons, ⊎_elim, not}
+use Rattle.std.proofs.Common.{◌≡◌, ◌==◌, ◌≤◌, ◌<◌, ℕ, zero, suc, ◌+◌, ◌-◌, ◌%◌, ◌^◌, ◌&&◌, Bool, true, false, cond, min, List, [], ◌∷◌, length, get_or, set, drop, map, sum, sum_by, slice_index, None, Some, nat_lt, arith, refl, sym, ◌∙◌, ap, ap₂, eqb-true, eq-eqb, ne_eqb, add-one, drop-cons, ⊎_elim, not}
 use Rattle.std.specs.List.{AllByRecursion, IsDistinct, All, range_with_len, position, position_or_len}
+use Rattle.std.proofs.Math.Nat.{mod-eq_of_lt}
 use Rattle.std.proofs.lemmas.Bool.{cases_lt, false≢true, ltb-false}
 use Rattle.std.proofs.lemmas.List.{length-map, get_or-map}
 use Rattle.std.proofs.lemmas.List.Sums.{sum-map}
@@ -24,6 +25,7 @@ use Rattle.mp_model.specs.Step.{passed, joined, has_green}
 use Rattle.mp_press.proofs.Among.{absent_at, count_few}
 use Rattle.mp_press.proofs.Known.{has_numbers}
 use Rattle.mp_press.specs.Written.{written, IsAmong}
+use Rattle.mp_step.specs.OpenStep.{flag, passed_open}
 use Rattle.mp_step.specs.Settled.{settled}
 use Rattle.mp_step.specs.Standing.{shares_in}
 use Rattle.mp_feed.specs.Counts.{counts, gained, places_of}
@@ -32,12 +34,15 @@ pub map_each : (P : ℕ → Type 0) (f : ℕ → ℕ) (xs : List ℕ) → AllByR
 map_each P f [] h = tt
 map_each P f (x ∷ xs) h = (h.0, map_each P f xs h.1)
 
-cond-few : (b : Bool) (x m : ℕ) → x ≤ m → cond b x 0 ≤ m
+pub cond-few : (b : Bool) (x m : ℕ) → x ≤ m → cond b x 0 ≤ m
 cond-few true x m h = h
 cond-few false x m h = omega arith
 
 pub passed_few : (net : Network) (stages : List ℕ) (q : ℕ → ℕ) (k : ℕ) → flow_of net k ≤ 1000 → passed net stages q k ≤ 1000
 passed_few net stages q k h = cond-few (has_green net stages k && nat_lt 0 (positive_weight net q k)) (min (flow_of net k) (q k)) 1000 (omega arith)
+
+pub open_few : (net : Network) (passing : List Bool) (q : ℕ → ℕ) (k : ℕ) → flow_of net k ≤ 1000 → passed_open net passing q k ≤ 1000
+open_few net passing q k h = cond-few (flag passing k) (min (flow_of net k) (q k)) 1000 (omega arith)
 
 -- an arrival by its link's place among the fed ones
 pub count_at : (fs cs : List ℕ) (l : ℕ) → length cs ≡ length fs → count_in fs cs l ≡ get_or cs (position_or_len (λ f. f == l) fs) 0
@@ -178,3 +183,17 @@ rows_count of xs f n e = sym (length-map xs of) ∙ ap length e ∙ length-map (
 pub row_at : {X : Type 0} (of : X → List ℕ) (xs : List X) (f : ℕ → List ℕ) (n : ℕ) → map of xs ≡ map f (numbers_to n) → (i : ℕ) → i < n → (d : X) → of (get_or xs i d) ≡ f (i + 1)
 row_at of xs f n e i h d =
     sym (get_or-map of xs i d [] (omega (arith, rows_count of xs f n e))) ∙ ap (λ t. get_or t i []) e ∙ get_or-map-range_with_len f 1 n i (i + 1) [] h (omega arith)
+
+-- of a link that received nothing
+pub written_same : (f g : ℕ → ℕ) (ks xs : List ℕ) → ((k : ℕ) → f k ≡ g k) → written f ks xs ≡ written g ks xs
+written_same f g [] xs h = refl
+written_same f g (k ∷ ks) xs h = ap (λ v. written f ks (set xs (k - 1) v)) (h k) ∙ written_same f g ks (set xs (k - 1) (g k)) h
+
+pub carried : (net : Network) (l phase r : ℕ) (q y ks xs : List ℕ) → r ≡ 0 →
+    written (λ k. entry q k - entry y k) ks xs ≡ written (λ k. entry q k - entry y k + (joined net l (phase + r) k - joined net l phase k)) ks xs
+carried net l phase r q y ks xs e =
+    let same : phase + r ≡ phase = omega arith in
+    written_same (λ k. entry q k - entry y k) (λ k. entry q k - entry y k + (joined net l (phase + r) k - joined net l phase k)) ks xs (λ k. let none = ap (λ n. joined net l n k) same in omega arith)
+
+pub phase_carried : (phase r w : ℕ) → phase < w → r ≡ 0 → phase ≡ (phase + r) % w
+phase_carried phase r w h e = let same : phase + r ≡ phase = omega arith in sym (ap (λ n. n % w) same ∙ mod-eq_of_lt h)

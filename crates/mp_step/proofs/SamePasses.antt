@@ -6,7 +6,7 @@ use Rattle.mp_model.specs.Network.{Network, movement_numbers, link_numbers, from
 use Rattle.mp_model.specs.NetworkRules.{IsNetwork}
 use Rattle.mp_model.specs.Arrivals.{arrivals_of}
 use Rattle.mp_model.specs.Pressure.{positive_weight}
-use Rattle.mp_model.specs.Step.{State, queue, received_by, has_green, passed, got_by, new_queue, step_by, step}
+use Rattle.mp_model.specs.Step.{State, queue, received_by, has_green, passed, departing_by, got_by, new_queue, step_by, step}
 use Rattle.mp_laws.proofs.Drift.{cond-le}
 use Rattle.mp_laws.proofs.Lists.{at_in, each_in, keep_all, in_numbers, numbered}
 use Rattle.mp_laws.proofs.Order.{map-same}
@@ -54,6 +54,11 @@ module _ (net : Network) (y z : ℕ → ℕ) (same : AllByRecursion (λ k. y k �
 -- a list of what passes, read by the number
 pub passes_at : (net : Network) (y : ℕ → ℕ) (p : List ℕ) → p ≡ map y (movement_numbers net) → AllByRecursion (λ k. entry p k ≡ y k) (movement_numbers net)
 passes_at net y p e = each_in _ (movement_numbers net) (λ k h. ap (λ t. entry t k) e ∙ numbered y (length net.movements) k h)
+
+-- and how many vehicles then leave
+pub left_same : (net : Network) (y : ℕ → ℕ) (p : List ℕ) → p ≡ map y (movement_numbers net) → departing_by net y ≡ departing_by net (entry p)
+left_same net y p e = sum_by-same_at (λ k. cond (goes_out net k) (y k) 0) (λ k. cond (goes_out net k) (entry p k) 0) (movement_numbers net)
+    (each_in _ (movement_numbers net) (λ k h. ap (λ y. cond (goes_out net k) y 0) (sym (at_in (λ k. entry p k ≡ y k) k (movement_numbers net) h (passes_at net y p e)))))
 
 -- stages as flags
 as_flags : (net : Network) (stages : List ℕ) (q : ℕ → ℕ) → AllByRecursion (λ k. passed net stages q k ≡ passed_open net (flags_of net stages q) q k) (movement_numbers net)

@@ -27,7 +27,7 @@ entry-written_stages f (j ∷ js) (s ∷ stages) xs n k size known h l =
     ∙ ap (cond (list_any (λ p. has (stage_at p.0 p.1) k) (zip js stages)) (f k)) (entry-written f (stage_at j s) xs n k size (known.0 s) h l)
     ∙ cond-or (has (stage_at j s) k) (list_any (λ p. has (stage_at p.0 p.1) k) (zip js stages)) (f k) (entry xs k)
 
-drop_junction : (js : List Junction) (i : ℕ) → i < length js → drop i js ≡ slice_index_or js i no_junction ∷ drop (i + 1) js
+pub drop_junction : (js : List Junction) (i : ℕ) → i < length js → drop i js ≡ slice_index_or js i no_junction ∷ drop (i + 1) js
 drop_junction js i h = drop-cons js i no_junction h ∙ ap (λ t. slice_index_or js i no_junction ∷ drop t js) (sym (add-one i))
 
 pub written_stages_more : (f : ℕ → ℕ) (js : List Junction) (stages xs : List ℕ) (i s : ℕ) → i < length js → i < length stages → s ≡ get_or stages i 0 →

@@ -19,7 +19,7 @@ stands t = record {
   buckets = t.buckets.items;
 }
 
--- No queue is negative, what entered has departed or is queued and is at most a million a movement and 11,000 a link and period, no level is above its bucket, and the buffers have their lengths.
+-- No queue is negative, what entered has departed or is queued and is at most a million a movement and 11,000 a link and period, no level and no next level is above its bucket, and the buffers have their lengths.
 pub record IsSound (t : Traffic) : Type 0 where
   pub some : NoneNegative t.queues.items
   pub next_some : NoneNegative t.next_queues.items
@@ -27,6 +27,7 @@ pub record IsSound (t : Traffic) : Type 0 where
   pub few : t.total_in ≤ 512 * 10 ^ 6 + t.period * 1408000
   pub conserved : t.total_in ≡ t.total_out + sum (naturals t.queues.items)
   pub within : AreWithin t.buckets.items t.levels.items
+  pub next_within : AreWithin t.buckets.items t.next_levels.items
   pub next_queues : length t.next_queues.items ≡ length t.queues.items
   pub next_phases : length t.next_phases.items ≡ length t.phases.items
   pub next_levels : length t.next_levels.items ≡ length t.levels.items

@@ -5,7 +5,6 @@ ghost use Rattle.mp_model.specs.Network.{Network, link_numbers, link_at, entry};
 ghost use Rattle.mp_model.specs.Arrivals.{HasCounts, next_level};
 ghost use Rattle.mp_step.specs.BucketLevels.{buckets_of, level_then, first_above, AreWithin, IsRoom};
 
-use crate::moving::arrivals_on;
 use mp_feed::{Above, Bucket, NoMemory};
 use mp_net::{LinkNo, Net};
 use std::alloc::{AllocError, Global};
@@ -24,7 +23,8 @@ fn level_after(bucket: &Bucket, level: u64, came: u64) -> Option<u64>
     }
 }
 
-/// Writes the next levels, or answers the least link that would be above its bucket.
+/// Writes the next levels of the fed links, or answers the least of them that would be above its bucket.
+/// The level of any other link is 0 before and after.
 pub fn levels_after(
     net: &Net,
     buckets: &[Bucket],
@@ -37,15 +37,16 @@ pub fn levels_after(
     requires buckets { buckets.now ≡ buckets_of net.now }
     requires levels { length levels.now ≡ length net.now.links }
     requires within { AllByRecursion (λ l. entry levels.now l ≤ net.now.per * (link_at net.now l).burst) (link_numbers net.now) }
-    requires next_size { length next.old ≡ length net.now.links }
+    requires next_within { AreWithin buckets.now next.old }
+    ensures next_within { AreWithin buckets.now next.new }
     ensures above { result ≡ first_above net.now (entry levels.now) arrivals.now }
     ensures value { IsNone result → next.new ≡ map (level_then net.now (entry levels.now) arrivals.now) (link_numbers net.now) }
 {
-    for i in 0..net.links() {
-        let at = usize::from(i);
-        let came = arrivals_on(net, arrivals, i + 1);
-        let Some(level) = level_after(&buckets[at], levels[at], came) else {
-            return Some(i + 1);
+    let fed = net.fed();
+    for i in 0..fed.len() {
+        let at = usize::from(fed[i]) - 1;
+        let Some(level) = level_after(&buckets[at], levels[at], arrivals[i]) else {
+            return Some(fed[i]);
         };
         next[at] = level;
     }

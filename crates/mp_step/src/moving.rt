@@ -4,7 +4,6 @@ ghost use Rattle.mp_model.specs.Network.{movement_numbers, link_numbers, out_of,
 ghost use Rattle.mp_model.specs.NetworkRules.{IsAcceptable};
 ghost use Rattle.mp_model.specs.Arrivals.{arrivals_of, HasCounts};
 ghost use Rattle.mp_model.specs.Step.{joined};
-ghost use Rattle.mp_feed.specs.Counts.{gained, places_of};
 ghost use Rattle.mp_press.specs.Queues.{naturals, NoneNegative, AreCounts};
 ghost use Rattle.mp_press.specs.Written.{IsAmong, written};
 ghost use Rattle.mp_step.specs.Settled.{settled};
@@ -43,21 +42,6 @@ fn gather(net: &Net, passes: &[u32], came: u64, l: LinkNo) -> u64
     came + sum
 }
 
-// Splits what a link received; most links receive nothing in most periods.
-fn split_among(split: &Splitter, phase: u32, n: u64, parts: &mut [u64]) -> u32
-    requires phase { phase < sum split.now.shares }
-    requires len { length parts.old ≡ length split.now.shares }
-    requires few { n ≤ 2 ^ 32 }
-    ensures parts { parts.new ≡ map (gained split.now.shares phase n) (places_of split.now.shares) }
-    ensures phase { result ≡ (phase + n) % sum split.now.shares }
-{
-    if n == 0 {
-        parts.fill(0);
-        return phase;
-    }
-    split.take_from(phase, n, parts)
-}
-
 fn put_queue(next: &mut [i128], k: MovementNo, queue: u128)
     requires known { (1 ≤ k) × (k ≤ length next.old) }
     requires fits { queue < 2 ^ 127 }
@@ -67,7 +51,32 @@ fn put_queue(next: &mut [i128], k: MovementNo, queue: u128)
     next[usize::from(k) - 1] = queue as i128;
 }
 
-// Writes the next queues of the movements out of one link.
+// What is left in the queue of a movement once it has passed.
+fn staying(queues: &[i128], passes: &[u32], k: MovementNo) -> u128
+    requires known { (1 ≤ k) × (k ≤ length queues.now) }
+    requires counts { AreCounts queues.now }
+    requires size { length passes.now ≡ length queues.now }
+    ensures value { result ≡ entry (naturals queues.now) k - entry passes.now k }
+    ensures few { result ≤ 2 ^ 90 }
+{
+    queue_of(queues, k).saturating_sub(u128::from(passes[usize::from(k) - 1]))
+}
+
+// Carries the queues of the movements out of a link over, less what passes.
+fn carry(queues: &[i128], passes: &[u32], ks: &[MovementNo], next: &mut [i128])
+    requires known { All (IsAmong (length queues.now)) ks.now }
+    requires counts { AreCounts queues.now }
+    requires size { length passes.now ≡ length queues.now }
+    requires next_size { length next.old ≡ length queues.now }
+    ensures value { naturals next.new ≡ written (λ k. entry (naturals queues.now) k - entry passes.now k) ks.now (naturals next.old) }
+    ensures some { NoneNegative next.old → NoneNegative next.new }
+{
+    for k in ks {
+        put_queue(next, *k, staying(queues, passes, *k));
+    }
+}
+
+// Writes the next queues of the movements out of one link, with the parts of what it received.
 fn settle(queues: &[i128], passes: &[u32], ks: &[MovementNo], parts: &[u64], next: &mut [i128])
     requires known { All (IsAmong (length queues.now)) ks.now }
     requires counts { AreCounts queues.now }
@@ -79,12 +88,12 @@ fn settle(queues: &[i128], passes: &[u32], ks: &[MovementNo], parts: &[u64], nex
 {
     for i in 0..ks.len() {
         let k = ks[i];
-        let stays = queue_of(queues, k).saturating_sub(u128::from(passes[usize::from(k) - 1]));
-        put_queue(next, k, stays + u128::from(parts[i]));
+        put_queue(next, k, staying(queues, passes, k) + u128::from(parts[i]));
     }
 }
 
-// One link: writes the next queues of its movements, and answers its next phase.
+// One link: writes the next queues of its movements, and answers its next phase. Most links receive
+// nothing in most periods.
 fn move_link(
     net: &Net,
     split: &Splitter,
@@ -113,8 +122,12 @@ fn move_link(
 {
     let received = gather(net, passes, came, l);
     let ks = net.out_of(l);
+    if received == 0 {
+        carry(queues, passes, ks, next);
+        return phase;
+    }
     let part = &mut parts[..ks.len()];
-    let after = split_among(split, phase, received, part);
+    let after = split.take_from(phase, received, part);
     settle(queues, passes, ks, part, next);
     after
 }

@@ -8,6 +8,7 @@ ghost use Rattle.mp_model.specs.declared.limits.TheConstants.{MOST_LINES};
 ghost use Rattle.mp_laws.specs.Buckets.{IsFirstAbove};
 ghost use Rattle.mp_press.specs.Queues.{naturals, AreCounts};
 ghost use Rattle.mp_step.specs.BucketLevels.{first_above, IsRoom};
+ghost use Rattle.mp_step.specs.LinkSums.{AreSums};
 ghost use Rattle.mp_step.specs.OpenStep.{closed_open, open_step};
 ghost use Rattle.mp_step.specs.Standing.{Stands, IsOn, closed, shares_in, splits_of};
 ghost use Rattle.mp_step.specs.Taken.{HasTaken};
@@ -174,8 +175,44 @@ impl State {
         ensures on { IsOn net.now self.new }
     {
         let _ = net.shares();
-        serve_all(net, stages, &self.traffic.queues, &mut self.passes);
-        advance(&mut self.traffic, net, &self.passes, arrivals)
+        let left = serve_all(net, stages, None, &self.traffic.queues, &mut self.passes);
+        advance(&mut self.traffic, net, &self.passes, left, arrivals)
+    }
+
+    /// The same, where what is queued on each link is handed in: one sum per link, of the queues of the
+    /// movements out of it, each times its share.
+    pub fn close_queued(
+        &mut self,
+        net: &Net,
+        stages: &[StageNo],
+        queued: &[u128],
+        arrivals: &[u64],
+    ) -> Result<(), AboveAt>
+        requires on { IsOn net.now self.old }
+        requires stages { AreStages net.now.junctions stages.now }
+        requires queued { AreSums net.now (entry self.old.queues) queued.now }
+        requires counts { HasCounts net.now arrivals.now }
+        requires digits { All (λ a. a < 10 ^ 9) arrivals.now }
+        requires period { self.old.period < MOST_LINES }
+        ensures above { IfErr result (λ above. first_above net.now (entry self.old.levels) arrivals.now ≡ Some above.link) }
+        ensures excess { IfErr result (λ above. (A : List (List ℕ)) → HasTaken net.now self.old A → IsFirstAbove net.now A arrivals.now above.link) }
+        ensures stays { OnErr result (self.new ≡ self.old) }
+        ensures within { OnOk result (first_above net.now (entry self.old.levels) arrivals.now ≡ None) }
+        ensures taken { OnOk result ((A : List (List ℕ)) → HasTaken net.now self.old A → HasTaken net.now self.new (A ++ arrivals.now ∷ [])) }
+        ensures closed { OnOk result (self.new ≡ closed net.now self.old stages.now arrivals.now) }
+        ensures step { OnOk result ((state : StateOfModel) → Stands net.now self.old state → Stands net.now self.new (step net.now stages.now (arrivals_of net.now arrivals.now) state)) }
+        ensures period { OnOk result (self.new.period ≡ self.old.period + 1) }
+        ensures on { IsOn net.now self.new }
+    {
+        let _ = net.shares();
+        let left = serve_all(
+            net,
+            stages,
+            Some(queued),
+            &self.traffic.queues,
+            &mut self.passes,
+        );
+        advance(&mut self.traffic, net, &self.passes, left, arrivals)
     }
 
     /// One period in which the movements pass whose flags are set, one flag per movement, and these
@@ -208,8 +245,8 @@ impl State {
         ensures on { IsOn net.now self.new }
     {
         let _ = net.shares();
-        serve_open(net, passing, &self.traffic.queues, &mut self.passes);
-        advance(&mut self.traffic, net, &self.passes, arrivals)
+        let left = serve_open(net, passing, &self.traffic.queues, &mut self.passes);
+        advance(&mut self.traffic, net, &self.passes, left, arrivals)
     }
 }
 

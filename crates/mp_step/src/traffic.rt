@@ -2,6 +2,7 @@
 ghost use Rattle.std.specs.Prelude.{◌≡◌, ◌≤◌, ◌<◌, ◌^◌, ℕ, List, [], ◌∷◌, ◌++◌, All, None, Some, IfErr, OnOk, OnErr, length};
 ghost use Rattle.mp_model.specs.Network.{entry};
 ghost use Rattle.mp_model.specs.Arrivals.{HasCounts};
+ghost use Rattle.mp_model.specs.Step.{departing_by};
 ghost use Rattle.mp_model.specs.declared.limits.TheConstants.{MOST_LINES};
 ghost use Rattle.mp_laws.specs.Buckets.{IsFirstAbove};
 ghost use Rattle.mp_step.specs.BucketLevels.{first_above};
@@ -12,7 +13,6 @@ ghost use Rattle.mp_step.specs.TrafficView.{stands, IsSound};
 
 use crate::levels::levels_after;
 use crate::moving::move_all;
-use crate::passing::departed;
 use crate::state::AboveAt;
 use mp_feed::{Bucket, Splitter};
 use mp_net::Net;
@@ -41,13 +41,15 @@ pub struct Traffic {
     pub parts: Vec<u64>,
 }
 
-/// One period in which the movements pass these numbers, one per movement and none above its queue.
+/// One period in which the movements pass these numbers, one per movement and none above its queue, and
+/// so many vehicles leave the network.
 ///
 /// `AboveAt` names the least link that would be above its bucket; the traffic then stays as it was.
 pub fn advance(
     traffic: &mut Traffic,
     net: &Net,
     passes: &[u32],
+    left: u64,
     arrivals: &[u64],
 ) -> Result<(), AboveAt>
     requires sound { IsSound traffic.old }
@@ -55,6 +57,7 @@ pub fn advance(
     requires size { length passes.now ≡ length net.now.movements }
     requires each { All (λ y. y ≤ 1000) passes.now }
     requires passes { ArePasses net.now (entry (stands traffic.old).queues) (entry passes.now) }
+    requires left { left ≡ departing_by net.now (entry passes.now) }
     requires counts { HasCounts net.now arrivals.now }
     requires digits { All (λ a. a < 10 ^ 9) arrivals.now }
     requires period { traffic.old.period < MOST_LINES }
@@ -88,7 +91,6 @@ pub fn advance(
         &mut traffic.next_queues,
         &mut traffic.next_phases,
     );
-    let left = departed(net, passes);
     mem::swap(&mut traffic.queues, &mut traffic.next_queues);
     mem::swap(&mut traffic.phases, &mut traffic.next_phases);
     mem::swap(&mut traffic.levels, &mut traffic.next_levels);

@@ -29,7 +29,7 @@ returns-clause-closed c =
     let nl : c.swap-3.new.x.items ≡ c.levels_after.new.next = ap (λ v. v.items) c.swap-3.ensures.x_after ∙ with_items_is t.next_levels c.levels_after.new.next (c.levels_after.auto.next ∙ c.deref_mut.ensures.len) in
     closed_is net (stands t) y counts c.deref-4.result.now (naturals c.deref-5.result.now) (naturals c.swap.new.x.items) c.swap-2.new.x.items c.swap-3.new.x.items c.deref-2.result.now c.from.result c.from-2.result
     c.deref-4.ensures.value (ap naturals c.deref-5.ensures.value) c.deref-2.ensures.value (ap naturals nq ∙ c.move_all-came.ensures.queues) (np ∙ c.move_all-came.ensures.phases) (nl ∙ c.in_default.ensures.value refl)
-    (c.from.ensures ∙ c.move_all-came.ensures.value) (c.from-2.ensures ∙ c.departed-left.ensures.value)
+    (c.from.ensures ∙ c.move_all-came.ensures.value) (c.from-2.ensures ∙ c.requires.left)
 
 pub returns-clause-sound : goal.returns-clause-sound
 returns-clause-sound c =
@@ -53,6 +53,7 @@ returns-clause-sound c =
           subst (λ fs. AreWithin fs c.swap-3.new.x.items) (sym on.buckets)
           (subst (AreWithin (buckets_of net)) (sym (ap (λ (s : Standing). s.levels) same))
           (are_within net (level_then net (entry st.levels) counts) (link_numbers net) (then_within net (entry st.levels) counts on.within within)));
+      next_within = subst (AreWithin t.buckets.items) (sym (ap (λ v. v.items) c.swap-3.ensures.y_after)) c.requires.sound.within;
       next_queues = search rules;
       next_phases = search rules;
       next_levels = search rules;
@@ -81,3 +82,6 @@ returns-in-Some-clause-excess c = λ A taken. excess_first c.args.net.now (stand
 
 pub move_all-came-requires-clause-splits : goal.move_all-came-requires-clause-splits
 move_all-came-requires-clause-splits c = ap (λ xs. map (λ split. split.shares) xs) c.deref-3.ensures.value ∙ c.requires.on.splits
+
+pub levels_after-requires-clause-next_within : goal.levels_after-requires-clause-next_within
+levels_after-requires-clause-next_within c = rw (c.deref.ensures.value, c.deref_mut.ensures.value) c.requires.sound.next_within
