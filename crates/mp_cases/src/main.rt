@@ -21,7 +21,7 @@ use replay::replay;
 use std::{fs, io};
 
 // The networks, whose names in the cases are those of their files, and texts that cases change.
-const TEXTS: [&str; 15] = [
+const TEXTS: [&str; 16] = [
     "two-links.toml",
     "tandem.toml",
     "loop.toml",
@@ -29,6 +29,7 @@ const TEXTS: [&str; 15] = [
     "ring.toml",
     "chain.toml",
     "slow.toml",
+    "many-turns.toml",
     "one-link.toml",
     "base.toml",
     "broken.rows",
