@@ -1,13 +1,13 @@
 -- The burst of what passes under a guard, and the bound of each queue, by induction over the periods for all movements at once.
-use Rattle.std.proofs.Common.{◌≡◌, ◌==◌, ℕ, zero, suc, ◌+◌, ◌-◌, ◌*◌, ◌≤◌, ◌<◌, Bool, true, false, cond, List, [], ◌∷◌, length, map, sum_by, arith, refl, sym, ◌∙◌, ap, subst, ⊎_elim, mul-le-mul_left, zero-le, le_refl, inl, inr, ◌⊎◌}
+use Rattle.std.proofs.Common.{◌≡◌, ℕ, zero, suc, ◌+◌, ◌*◌, ◌≤◌, ◌<◌, true, List, length, sum_by, arith, sym, ap, subst, ⊎_elim, mul-le-mul_left, le_refl, inl, inr, ◌⊎◌}
 use Rattle.std.proofs.Math.Nat.{le_of_mul-le-mul_left}
 use Rattle.std.proofs.lemmas.Bool.{cases_lt}
 use Rattle.std.specs.List.{AllByRecursion}
 use Rattle.mp_laws.proofs.Lists.{at_in, each_in, filter_sub}
 use Rattle.mp_laws.proofs.Sums.{sum_by-le_at, sum_by-add, sum_by-mul}
-use Rattle.mp_model.specs.Guard.{Guard, Guards, GuardedServeRule, CarryBursts, HasSurplus, Holds, CarriesBurst, FlowRule, GuardedBalanceRule, GreensFit, crowd, guarded_rate, greens_at, given, given_of, red}
-use Rattle.mp_model.specs.GuardedRun.{Play, KeepsGuard, IsCandidate, account_of, stage_of, green_in, guarded_pass, guarded_state}
-use Rattle.mp_model.specs.Network.{Network, goes_to, to_of, movement_numbers, link_numbers, junction_numbers, link_at, junction_at, junction_of_movement, from_of, flow_of, share_of, start_of, rate_before, burst_before, into_link, has, entry}
+use Rattle.mp_model.specs.Guard.{Guard, Guards, GuardedServeRule, CarryBursts, HasSurplus, Holds, CarriesBurst, FlowRule, GuardedBalanceRule, GreensFit, crowd, guarded_rate, greens_at, red}
+use Rattle.mp_model.specs.GuardedRun.{Play, IsCandidate, account_of, stage_of, green_in, guarded_state}
+use Rattle.mp_model.specs.Network.{Network, goes_to, to_of, movement_numbers, junction_numbers, junction_at, junction_of_movement, from_of, flow_of, share_of, start_of, rate_before, burst_before, into_link, has, entry}
 use Rattle.mp_model.specs.NetworkRules.{IsNetwork}
 use Rattle.mp_model.specs.Step.{queue, joined}
 use Rattle.mp_guarded.specs.Greens.{KeepsGreens, IsCounted, greens_in}
@@ -102,7 +102,7 @@ module _ (net : Network) (ok : IsNetwork net) (guard : Guard) (guards : Guards n
         let surplus_is = at_in (λ k. HasSurplus net k (surplus k)) k (movement_numbers net) in' carry.surpluses (received_at net ok guard play l s) (arrived + passed) in
         let joined_is : came k (s + n) ≡ joined net l (received_at net ok guard play l s + (arrived + passed)) k = ap (λ r. joined net l r k) received in
         let each : AllByRecursion (λ j. guard.denominator * total (passes_at net guard play j) s n ≤ guard.denominator * entry b j + n * guarded_rate guard j) (into_link net l) =
-            each_in (λ j. guard.denominator * total (passes_at net guard play j) s n ≤ guard.denominator * entry b j + n * guarded_rate guard j) (into_link net l) (λ j in''. passes j (filter_sub (λ k. goes_to (to_of net k) l) (movement_numbers net) j in'') s n le) in
+        each_in (λ j. guard.denominator * total (passes_at net guard play j) s n ≤ guard.denominator * entry b j + n * guarded_rate guard j) (into_link net l) (λ j in''. passes j (filter_sub (λ k. goes_to (to_of net k) l) (movement_numbers net) j in'') s n le) in
         let sums = sum_by-le_at (λ j. guard.denominator * total (passes_at net guard play j) s n) (λ j. guard.denominator * entry b j + n * guarded_rate guard j) (into_link net l) each in
         let left = sum_by-mul guard.denominator (λ j. total (passes_at net guard play j) s n) (into_link net l) in
         let right = sum_by-add (λ j. guard.denominator * entry b j) (λ j. n * guarded_rate guard j) (into_link net l) in
@@ -131,7 +131,7 @@ module _ (net : Network) (ok : IsNetwork net) (guard : Guard) (guards : Guards n
         let place : s + (1 + n + m) ≡ a + m = omega arith in
         let joins = row_joins t in_time passes k in' s (1 + n + m) (omega arith) in
         let joins' : net.shares * guard.denominator * came k (a + m) ≤ net.shares * guard.denominator * came k s + crowd_of k + (1 + n + m) * (net.shares * guarded_rate guard k) =
-            subst (λ u. net.shares * guard.denominator * came k u ≤ net.shares * guard.denominator * came k s + crowd_of k + (1 + n + m) * (net.shares * guarded_rate guard k)) place joins in
+        subst (λ u. net.shares * guard.denominator * came k u ≤ net.shares * guard.denominator * came k s + crowd_of k + (1 + n + m) * (net.shares * guarded_rate guard k)) place joins in
         let greens = greens_serve k in' (s + 1) n (omega arith) waits in
         let all = holds_since net.shares guard.denominator (flow_of net k) (guarded_rate guard k) (greens_in (λ t. green_in net guard play t k) (s + 1) n) (red net guard k) n (1 + n + m) x (came k s) (came k (a + m)) (crowd_of k) (omega arith) joins' greens in
         inr (n, omega arith)
@@ -139,12 +139,12 @@ module _ (net : Network) (ok : IsNetwork net) (guard : Guard) (guards : Guards n
         let place : 0 + (a + m) ≡ a + m = omega arith in
         let joins = row_joins t in_time passes k in' 0 (a + m) (omega arith) in
         let joins' : net.shares * guard.denominator * came k (a + m) ≤ net.shares * guard.denominator * came k 0 + crowd_of k + (a + m) * (net.shares * guarded_rate guard k) =
-            subst (λ u. net.shares * guard.denominator * came k u ≤ net.shares * guard.denominator * came k 0 + crowd_of k + (a + m) * (net.shares * guarded_rate guard k)) place joins in
+        subst (λ u. net.shares * guard.denominator * came k u ≤ net.shares * guard.denominator * came k 0 + crowd_of k + (a + m) * (net.shares * guarded_rate guard k)) place joins in
         let none = none_came net ok guard play k in' in
         let opening = first_queue net ok guard play k in' in
         let greens = greens_serve k in' 0 a (omega arith) waits in
         let all = holds_since net.shares guard.denominator (flow_of net k) (guarded_rate guard k) (greens_in (λ t. green_in net guard play t k) 0 a) (red net guard k) a (a + m) x 0 (start_of net k + came k (a + m)) (start_crowd k)
-            (omega arith) (omega (arith, joins', ap (λ c. net.shares * guard.denominator * c) none)) greens in
+        (omega arith) (omega (arith, joins', ap (λ c. net.shares * guard.denominator * c) none)) greens in
         inr (a, omega arith)
 
     -- the busy movement

@@ -1,5 +1,5 @@
 -- The queue of one movement, period by period.
-use Rattle.std.proofs.Common.{◌≡◌, ℕ, zero, suc, ◌+◌, ◌*◌, ◌≤◌, ◌<◌, min, Bool, true, false, cond, arith, refl, sym, ◌∙◌, ap, subst, ⊎_elim, zero-le}
+use Rattle.std.proofs.Common.{◌≡◌, ℕ, zero, suc, ◌+◌, ◌*◌, ◌≤◌, ◌<◌, min, Bool, true, false, cond, arith, refl, sym, ◌∙◌, ap, subst, ⊎_elim}
 use Rattle.std.proofs.lemmas.Bool.{cases_lt}
 use Rattle.mp_guarded.specs.Greens.{greens_in}
 use Rattle.mp_guarded.specs.Busy.{IsServed, IsWaiting, Busy}

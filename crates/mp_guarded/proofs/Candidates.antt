@@ -1,15 +1,14 @@
 -- A candidate is always there: the stage of the period before where it owes, else any that owes, else every one.
-use Rattle.std.proofs.Common.{◌≡◌, ◌==◌, ℕ, zero, suc, ◌+◌, ◌-◌, ◌*◌, ◌%◌, ◌≤◌, ◌<◌, Bool, true, false, cond, not, ◌&&◌, ◌||◌, ◌⊎◌, inl, inr, nat_lt, List, [], ◌∷◌, length, sum, sum_by, get_or, set, find, Option, Some, None, arith, refl, sym, ◌∙◌, ap, subst, ⊎_elim, eqb-true, eq-eqb, ne_eqb, mul-le-mul_left, zero-le, le_refl}
+use Rattle.std.proofs.Common.{◌≡◌, ℕ, zero, suc, ◌+◌, ◌-◌, ◌*◌, ◌%◌, ◌≤◌, ◌<◌, Bool, true, false, cond, not, ◌&&◌, ◌⊎◌, inl, inr, nat_lt, List, [], ◌∷◌, length, sum, get_or, set, find, Option, Some, None, arith, refl, sym, ◌∙◌, ap, subst, ⊎_elim, eq-eqb, mul-le-mul_left, zero-le, le_refl}
 use Rattle.std.proofs.Math.Nat.{mod-lt, zero-mod}
-use Rattle.std.proofs.lemmas.Bool.{cases_lt, false≢true, lt-ltb, ltb-true}
+use Rattle.std.proofs.lemmas.Bool.{cases_lt, lt-ltb, ltb-true}
 use Rattle.std.proofs.lemmas.List.Sums.{sum_by-cons, sum_by-set}
-use Rattle.mp_model.specs.Guard.{Guard, GreensFit, owing}
-use Rattle.mp_model.specs.GuardedRun.{Account, IsCandidate, account_at, is_change, is_idle, less_by, needed_in, owed_in, paid, paying}
+use Rattle.mp_model.specs.Guard.{Guard, owing}
+use Rattle.mp_model.specs.GuardedRun.{Account, IsCandidate, account_at, is_change, is_idle, less_by, needed_in, paid, paying}
 use Rattle.mp_model.specs.Network.{Junction, stage_numbers, entry}
 use Rattle.mp_guarded.specs.Greens.{KeepsGreens}
 use Rattle.mp_guarded.specs.Candidates.{needed_before, HasCandidate}
 use Rattle.mp_guarded.proofs.Greens.{next_place, left_over, made_new, one_each}
-use Rattle.mp_guarded.proofs.Owed.{both}
 
 -- which stage, if any, owes some
 first_owing : (owed : List ℕ) → (sum owed ≡ 0) ⊎ ((i : ℕ) × (i < length owed) × (1 ≤ get_or owed i 0))
@@ -203,10 +202,10 @@ module _ (guard : Guard) (greens : List ℕ) (j : Junction) (counts : ℕ → �
       ⊎_elim
       (λ e. subst (λ owed. needed_in guard.lost owed (stages t) + suc t % guard.cycle ≤ guard.cycle) (sym (left_over guard.cycle t keeps.some greens owed' e.0)) (omega (arith, e.0)))
       (λ e. subst (λ owed. needed_in guard.lost owed (stages t) + suc t % guard.cycle ≤ guard.cycle) (sym (made_new guard.cycle t keeps.some greens owed' e.0))
-          (let fit = keeps.fit in
-          let fewer = (sums_at_most (set greens (stages t - 1) 0) greens (lowered greens (stages t - 1) 0 zero-le)).1 in
-          let m = mul-le-mul_left guard.lost fewer in
-          omega (arith, e.0)))
+      (let fit = keeps.fit in
+      let fewer = (sums_at_most (set greens (stages t - 1) 0) greens (lowered greens (stages t - 1) 0 zero-le)).1 in
+      let m = mul-le-mul_left guard.lost fewer in
+      omega (arith, e.0)))
       (next_place guard.cycle t keeps.some)
 
   pub before_in : (t : ℕ) → KeepsGreens guard greens j counts stages t → (r : ℕ) → (account t).before ≡ Some r → (1 ≤ r) × (r ≤ length j.stages)

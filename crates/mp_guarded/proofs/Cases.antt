@@ -1,5 +1,5 @@
 -- The worked guard.
-use Rattle.std.proofs.Common.{◌≡◌, ℕ, zero, suc, ◌+◌, ◌*◌, ◌≤◌, ◌<◌, [], ◌∷◌, refl, arith, ap, lit≤, zero-le}
+use Rattle.std.proofs.Common.{◌≡◌, ℕ, ◌+◌, ◌*◌, ◌≤◌, ◌<◌, [], ◌∷◌, refl, arith, ap, lit≤, zero-le}
 use Rattle.mp_laws.proofs.Cases.{two_network}
 use Rattle.mp_laws.proofs.Lists.{at_range}
 use Rattle.mp_laws.proofs.Windows.{keeps_to}
@@ -23,9 +23,13 @@ keeps_miscounted : (t : ℕ) → t < 4 → KeepsGuard two_approaches two_guard m
 unfolding KeepsAt
 keeps_miscounted t lt = at_range KeepsAt 0 4 t zero-le (omega arith) (
   keeps_at 0 (record { is_stage = (lit≤ tt, lit≤ tt); fits = lit≤ tt }),
-  (keeps_at 1 (record { is_stage = (lit≤ tt, lit≤ tt); fits = lit≤ tt }),
-  (keeps_at 2 (record { is_stage = (lit≤ tt, lit≤ tt); fits = lit≤ tt }),
-  (keeps_at 3 (record { is_stage = (lit≤ tt, lit≤ tt); fits = lit≤ tt }), tt))),
+  (
+    keeps_at 1 (record { is_stage = (lit≤ tt, lit≤ tt); fits = lit≤ tt }),
+    (
+      keeps_at 2 (record { is_stage = (lit≤ tt, lit≤ tt); fits = lit≤ tt }),
+      (keeps_at 3 (record { is_stage = (lit≤ tt, lit≤ tt); fits = lit≤ tt }), tt),
+    ),
+  ),
 )
 
 pub miscounted_case : MiscountedCase
@@ -70,17 +74,37 @@ unseen_at : (t : ℕ) → t < 12 → UnseenAt t
 unfolding UnseenAt
 unseen_at t lt = at_range UnseenAt 0 12 t zero-le (omega arith) (
   (record { is_stage = (lit≤ tt, lit≤ tt); fits = lit≤ tt }),
-  ((record { is_stage = (lit≤ tt, lit≤ tt); fits = lit≤ tt }),
-  ((record { is_stage = (lit≤ tt, lit≤ tt); fits = lit≤ tt }),
-  ((record { is_stage = (lit≤ tt, lit≤ tt); fits = lit≤ tt }),
-  ((record { is_stage = (lit≤ tt, lit≤ tt); fits = lit≤ tt }),
-  ((record { is_stage = (lit≤ tt, lit≤ tt); fits = lit≤ tt }),
-  ((record { is_stage = (lit≤ tt, lit≤ tt); fits = lit≤ tt }),
-  ((record { is_stage = (lit≤ tt, lit≤ tt); fits = lit≤ tt }),
-  ((record { is_stage = (lit≤ tt, lit≤ tt); fits = lit≤ tt }),
-  ((record { is_stage = (lit≤ tt, lit≤ tt); fits = lit≤ tt }),
-  ((record { is_stage = (lit≤ tt, lit≤ tt); fits = lit≤ tt }),
-  ((record { is_stage = (lit≤ tt, lit≤ tt); fits = lit≤ tt }), tt))))))))))),
+  (
+    (record { is_stage = (lit≤ tt, lit≤ tt); fits = lit≤ tt }),
+    (
+      (record { is_stage = (lit≤ tt, lit≤ tt); fits = lit≤ tt }),
+      (
+        (record { is_stage = (lit≤ tt, lit≤ tt); fits = lit≤ tt }),
+        (
+          (record { is_stage = (lit≤ tt, lit≤ tt); fits = lit≤ tt }),
+          (
+            (record { is_stage = (lit≤ tt, lit≤ tt); fits = lit≤ tt }),
+            (
+              (record { is_stage = (lit≤ tt, lit≤ tt); fits = lit≤ tt }),
+              (
+                (record { is_stage = (lit≤ tt, lit≤ tt); fits = lit≤ tt }),
+                (
+                  (record { is_stage = (lit≤ tt, lit≤ tt); fits = lit≤ tt }),
+                  (
+                    (record { is_stage = (lit≤ tt, lit≤ tt); fits = lit≤ tt }),
+                    (
+                      (record { is_stage = (lit≤ tt, lit≤ tt); fits = lit≤ tt }),
+                      ((record { is_stage = (lit≤ tt, lit≤ tt); fits = lit≤ tt }), tt),
+                    ),
+                  ),
+                ),
+              ),
+            ),
+          ),
+        ),
+      ),
+    ),
+  ),
 )
 
 pub unseen_case : UnseenCase
@@ -91,8 +115,11 @@ unseen_case = record {
     windows = (
       keeps_to 4 2 1 (2 ∷ 0 ∷ 0 ∷ 1 ∷ 0 ∷ 0 ∷ 0 ∷ 1 ∷ 0 ∷ 0 ∷ 0 ∷ 1 ∷ [])
           (lit≤ tt, (lit≤ tt, (lit≤ tt, (lit≤ tt, (lit≤ tt, (lit≤ tt, (lit≤ tt, (lit≤ tt, (lit≤ tt, (lit≤ tt, (lit≤ tt, (lit≤ tt, tt)))))))))))),
-      (keeps_to 4 2 1 (0 ∷ 0 ∷ 0 ∷ 0 ∷ 0 ∷ 0 ∷ 0 ∷ 0 ∷ 0 ∷ 0 ∷ 0 ∷ 0 ∷ [])
-          (lit≤ tt, (lit≤ tt, (lit≤ tt, (lit≤ tt, (lit≤ tt, (lit≤ tt, (lit≤ tt, (lit≤ tt, (lit≤ tt, (lit≤ tt, (lit≤ tt, (lit≤ tt, tt)))))))))))), tt),
+      (
+        keeps_to 4 2 1 (0 ∷ 0 ∷ 0 ∷ 0 ∷ 0 ∷ 0 ∷ 0 ∷ 0 ∷ 0 ∷ 0 ∷ 0 ∷ 0 ∷ [])
+            (lit≤ tt, (lit≤ tt, (lit≤ tt, (lit≤ tt, (lit≤ tt, (lit≤ tt, (lit≤ tt, (lit≤ tt, (lit≤ tt, (lit≤ tt, (lit≤ tt, (lit≤ tt, tt)))))))))))),
+        tt,
+      ),
     );
   };
   candidates = λ t lt. (unseen_at t lt, tt);

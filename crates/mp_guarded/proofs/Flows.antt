@@ -1,21 +1,20 @@
 -- What a guarded run moves, period by period and over rows of periods.
-use Rattle.std.proofs.Common.{◌≡◌, ◌==◌, ℕ, zero, suc, ◌+◌, ◌-◌, ◌*◌, ◌≤◌, ◌<◌, min, Bool, true, false, cond, List, [], ◌∷◌, length, map, sum_by, arith, refl, sym, ◌∙◌, ap, subst}
-use Rattle.std.specs.List.{AllByRecursion}
+use Rattle.std.proofs.Common.{◌≡◌, ◌==◌, ℕ, zero, suc, ◌+◌, ◌-◌, ◌*◌, ◌≤◌, min, Bool, true, false, cond, length, sum_by, arith, sym, ap, subst}
 use Rattle.mp_laws.proofs.Credits.{grows}
 use Rattle.mp_laws.proofs.Distinct.{range_distinct, distinct_filter}
 use Rattle.mp_laws.proofs.Lists.{at_in, numbered}
 use Rattle.mp_laws.proofs.Permitted.{stays}
 use Rattle.mp_laws.proofs.Sums.{sum_by-add, sum_by-zero}
 use Rattle.mp_laws.proofs.Windows.{keeps_to}
-use Rattle.mp_model.specs.Arrivals.{arrivals_of, counts_of, StaysWithin, KeepsTo}
+use Rattle.mp_model.specs.Arrivals.{arrivals_of, counts_of, StaysWithin}
 use Rattle.mp_model.specs.Guard.{Guard}
-use Rattle.mp_model.specs.GuardedRun.{Play, first_arrivals, green_in, guarded_pass, guarded_state}
+use Rattle.mp_model.specs.GuardedRun.{Play, first_arrivals, green_in, guarded_state}
 use Rattle.mp_model.specs.Network.{Network, movement_numbers, link_numbers, link_at, from_of, flow_of, share_of, start_of, out_of, into_link, has}
 use Rattle.mp_model.specs.NetworkRules.{IsNetwork}
-use Rattle.mp_model.specs.Step.{State, queue, received_by, joined, got_by}
+use Rattle.mp_model.specs.Step.{queue, received_by, joined}
 use Rattle.mp_guarded.specs.Bounds.{total, passes_at, IsGuarded}
 use Rattle.mp_guarded.specs.Busy.{IsServed}
-use Rattle.mp_guarded.proofs.Rows.{add_none, add_next, row_keeps, total_sums}
+use Rattle.mp_guarded.proofs.Rows.{add_none, add_next, row_keeps}
 
 cond_le : (b : Bool) (x y : ℕ) → x ≤ y → cond b x 0 ≤ y
 cond_le true x y le = le
@@ -54,7 +53,7 @@ module _ (net : Network) (ok : IsNetwork net) (guard : Guard) (play : Play) wher
       let l = from_of net k in
       let r : ℕ = arrived_at l t + sum_by (λ j. passes_at net guard play j t) (into_link net l) in
       let new : queue_at k (suc t) ≡ queue_at k t - passes_at net guard play k t + (joined net l (received_at l t + r) k - joined net l (received_at l t) k) =
-          numbered (λ k. queue_at k t - passes_at net guard play k t + (joined net (from_of net k) (received_at (from_of net k) t + (arrived_at (from_of net k) t + sum_by (λ j. passes_at net guard play j t) (into_link net (from_of net k)))) k - joined net (from_of net k) (received_at (from_of net k) t) k)) (length net.movements) k in' in
+      numbered (λ k. queue_at k t - passes_at net guard play k t + (joined net (from_of net k) (received_at (from_of net k) t + (arrived_at (from_of net k) t + sum_by (λ j. passes_at net guard play j t) (into_link net (from_of net k)))) k - joined net (from_of net k) (received_at (from_of net k) t) k)) (length net.movements) k in' in
       let came : came_at k (suc t) ≡ joined net l (received_at l t + r) k = ap (λ n. joined net l n k) (received_more l t (links_in k in')) in
       let more = joined_more k (received_at l t) r in' in
       let few = passes_few k t in

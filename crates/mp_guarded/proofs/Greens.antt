@@ -1,14 +1,13 @@
 -- How often a movement is green in a row of periods, whatever part of its cycles the row has.
-use Rattle.std.proofs.Common.{◌≡◌, ◌==◌, ℕ, zero, suc, ◌+◌, ◌-◌, ◌*◌, ◌%◌, ◌≤◌, ◌<◌, Bool, true, false, cond, not, ◌&&◌, ◌||◌, ◌⊎◌, inl, inr, List, [], ◌∷◌, length, sum, Option, Some, None, arith, refl, sym, ◌∙◌, ap, subst, ⊎_elim, eqb-true, eq-eqb, ne_eqb, get_or, mul-le-mul_left, mul-le-mul_right, zero-le}
+use Rattle.std.proofs.Common.{◌≡◌, ◌==◌, ℕ, zero, suc, ◌+◌, ◌-◌, ◌*◌, ◌%◌, ◌≤◌, ◌<◌, Bool, true, false, cond, not, ◌&&◌, ◌||◌, ◌⊎◌, inl, inr, List, [], ◌∷◌, length, Some, arith, refl, sym, ◌∙◌, ap, subst, ⊎_elim, eq-eqb, ne_eqb, get_or, mul-le-mul_left, mul-le-mul_right, zero-le}
 use Rattle.std.proofs.Math.Nat.{mod-lt, mod-eq_of_lt, suc-mod, mod_self, zero-mod}
-use Rattle.std.proofs.lemmas.Bool.{cases_lt, false≢true}
+use Rattle.std.proofs.lemmas.Bool.{cases_lt}
 use Rattle.std.specs.List.{list_all}
-use Rattle.std.proofs.lemmas.List.Sums.{sum_by-cons}
-use Rattle.mp_model.specs.Guard.{Guard, GreensFit, is_always_green, sum_with, given_of}
-use Rattle.mp_model.specs.GuardedRun.{Account, IsCandidate, account_at, owed_in, paid, is_green, is_change}
+use Rattle.mp_model.specs.Guard.{Guard, is_always_green, sum_with, given_of}
+use Rattle.mp_model.specs.GuardedRun.{Account, account_at, owed_in, paid, is_change}
 use Rattle.mp_model.specs.Network.{Junction, stage_at, has}
 use Rattle.mp_guarded.specs.Greens.{greens_in, KeepsGreens, is_green_at, IsCounted}
-use Rattle.mp_guarded.proofs.Owed.{Pays, pays_when_counted, pays_at_most_one, sum_with_le, both}
+use Rattle.mp_guarded.proofs.Owed.{pays_when_counted, pays_at_most_one, sum_with_le, both}
 
 -- the place in the cycle goes up by 1, or a new cycle begins
 pub next_place : (C t : ℕ) → 1 ≤ C → ((suc t % C ≡ t % C + 1) × (t % C + 1 < C)) ⊎ ((suc t % C ≡ 0) × (t % C + 1 ≡ C))
@@ -113,9 +112,9 @@ module _ (guard : Guard) (greens : List ℕ) (j : Junction) (counts : ℕ → �
       let fits = paid_fits t (omega arith) in
       ⊎_elim
       (λ e. subst (λ owed. IsOwed guard.cycle (owed_of greens) (owed_of owed) (suc t % guard.cycle)) (sym (left_over guard.cycle t keeps.some greens (paid_in t) e.0))
-          (subst (λ i. IsOwed guard.cycle (owed_of greens) (owed_of (paid_in t)) i) (sym e.0) (record { some = omega arith; most = omega arith; fits = omega arith })))
+      (subst (λ i. IsOwed guard.cycle (owed_of greens) (owed_of (paid_in t)) i) (sym e.0) (record { some = omega arith; most = omega arith; fits = omega arith })))
       (λ e. subst (λ owed. IsOwed guard.cycle (owed_of greens) (owed_of owed) (suc t % guard.cycle)) (sym (made_new guard.cycle t keeps.some greens (paid_in t) e.0))
-          (subst (λ i. IsOwed guard.cycle (owed_of greens) (owed_of greens) i) (sym e.0) new_cycle))
+      (subst (λ i. IsOwed guard.cycle (owed_of greens) (owed_of greens) i) (sym e.0) new_cycle))
       (next_place guard.cycle t keeps.some)
 
   abbrev green : ℕ → Bool
@@ -133,11 +132,11 @@ module _ (guard : Guard) (greens : List ℕ) (j : Junction) (counts : ℕ → �
         let all = (new_cycle).fits in
         ⊎_elim
         (λ e. subst (λ owed. Row rate flow guard.cycle (owed_of greens) (suc n) (g + cond (green t) 1 0) (owed_of owed) (suc t % guard.cycle)) (sym (left_over guard.cycle t keeps.some greens (paid_in t) e.0))
-            (subst (λ i. Row rate flow guard.cycle (owed_of greens) (suc n) (g + cond (green t) 1 0) (owed_of (paid_in t)) i) (sym e.0)
-                (row_more rate flow guard.cycle (owed_of greens) n g (owed_of (account t).owed) (owed_of (paid_in t)) (t % guard.cycle) (cond (green t) 1 0) pays.earned row)))
+        (subst (λ i. Row rate flow guard.cycle (owed_of greens) (suc n) (g + cond (green t) 1 0) (owed_of (paid_in t)) i) (sym e.0)
+        (row_more rate flow guard.cycle (owed_of greens) n g (owed_of (account t).owed) (owed_of (paid_in t)) (t % guard.cycle) (cond (green t) 1 0) pays.earned row)))
         (λ e. subst (λ owed. Row rate flow guard.cycle (owed_of greens) (suc n) (g + cond (green t) 1 0) (owed_of owed) (suc t % guard.cycle)) (sym (made_new guard.cycle t keeps.some greens (paid_in t) e.0))
-            (subst (λ i. Row rate flow guard.cycle (owed_of greens) (suc n) (g + cond (green t) 1 0) (owed_of greens) i) (sym e.0)
-                (let last = e.1 in row_cycle rate flow guard.cycle (owed_of greens) n g (owed_of (account t).owed) (owed_of (paid_in t)) (t % guard.cycle) (cond (green t) 1 0) low serves (omega arith) pays.earned (omega arith) last row)))
+        (subst (λ i. Row rate flow guard.cycle (owed_of greens) (suc n) (g + cond (green t) 1 0) (owed_of greens) i) (sym e.0)
+        (let last = e.1 in row_cycle rate flow guard.cycle (owed_of greens) n g (owed_of (account t).owed) (owed_of (paid_in t)) (t % guard.cycle) (cond (green t) 1 0) low serves (omega arith) pays.earned (omega arith) last row)))
         (next_place guard.cycle t keeps.some)
 
     rows : (a n : ℕ) → a + n ≤ T → IsCounted counts k a n → RowAt n (greens_in green a n) (a + n)

@@ -1,12 +1,12 @@
 -- What a period takes from what the stages of a movement owe.
-use Rattle.std.proofs.Common.{◌≡◌, ◌==◌, ℕ, zero, suc, ◌+◌, ◌-◌, ◌*◌, ◌≤◌, ◌<◌, Bool, true, false, cond, not, ◌&&◌, ◌||◌, nat_lt, List, [], ◌∷◌, length, get_or, sum, sum_by, find, set, Option, Some, None, IfSome, slice_set, slice_index, arith, refl, sym, ◌∙◌, ap, subst, eqb-true, eq-eqb, zero-le}
+use Rattle.std.proofs.Common.{◌≡◌, ◌==◌, ℕ, zero, suc, ◌+◌, ◌-◌, ◌≤◌, ◌<◌, Bool, true, false, cond, not, ◌&&◌, ◌||◌, nat_lt, List, [], ◌∷◌, length, get_or, sum, find, set, Option, Some, None, arith, refl, sym, ◌∙◌, ap, eqb-true, eq-eqb, zero-le}
 use Rattle.std.specs.List.{list_all}
 use Rattle.std.proofs.lemmas.Bool.{or_left, or_right, true≢false, false≢true}
 use Rattle.std.proofs.lemmas.List.{length-set}
 use Rattle.std.proofs.lemmas.List.Sums.{sum_by-cons}
 use Rattle.mp_laws.proofs.Lists.{in_numbers}
 use Rattle.mp_model.specs.Guard.{is_always_green, sum_with}
-use Rattle.mp_model.specs.GuardedRun.{Account, is_change, is_idle, paying, less_by, paid, is_green}
+use Rattle.mp_model.specs.GuardedRun.{Account, is_change, is_idle, less_by, paid, is_green}
 use Rattle.mp_model.specs.Network.{Junction, stage_at, stage_numbers, has, entry}
 
 -- writing one number changes the sum where its stage holds the movement
@@ -108,6 +108,7 @@ pays_when_counted lost j counts account s k len low high not_always counted = go
         let range = in_numbers (length j.stages) r f.1 in
         pays_stage j account.owed r k (is_green lost j account.before s k) len range.0 (omega (arith, range.1))
         (λ holds. absurd (false≢true (sym (holds_none j counts account.owed r k not_always counted f.0 (has (stage_at j r) k) refl) ∙ holds)))
+
     go : (kept owes : Bool) → not (is_change lost account.before s) ≡ kept → Pays j.stages account.owed (less_by account.owed (cond (kept && owes) (Some s) (find (is_idle j counts account.owed) (stage_numbers j)))) k (is_green lost j account.before s k)
     go true true e = pays_stage j account.owed s k (is_green lost j account.before s k) len low high (λ holds. no_change_green lost j account.before s k e holds)
     go true false e = idle (find (is_idle j counts account.owed) (stage_numbers j)) refl
@@ -123,6 +124,7 @@ pays_at_most_one lost j counts account s k len low high = go (not (is_change los
         let f = found_passes (is_idle j counts account.owed) (stage_numbers j) r e in
         let range = in_numbers (length j.stages) r f.1 in
         pays_stage j account.owed r k true len range.0 (omega (arith, range.1)) (λ holds. refl)
+
     go : (stage : Bool) → Pays j.stages account.owed (less_by account.owed (cond stage (Some s) (find (is_idle j counts account.owed) (stage_numbers j)))) k true
     go true = pays_stage j account.owed s k true len low high (λ holds. refl)
     go false = idle (find (is_idle j counts account.owed) (stage_numbers j)) refl

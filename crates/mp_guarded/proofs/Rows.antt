@@ -1,5 +1,5 @@
 -- Sums over rows of periods, and arrivals in them.
-use Rattle.std.proofs.Common.{◌≡◌, ℕ, zero, suc, ◌+◌, ◌-◌, ◌*◌, ◌≤◌, List, [], ◌∷◌, ◌++◌, length, map, sum, sum_by, arith, refl, sym, ◌∙◌, ap, ap₂, subst}
+use Rattle.std.proofs.Common.{◌≡◌, ℕ, zero, suc, ◌+◌, ◌-◌, ◌*◌, ◌≤◌, List, [], ◌∷◌, ◌++◌, map, sum, sum_by, arith, refl, sym, ◌∙◌, ap, ap₂}
 use Rattle.std.specs.List.{range_with_len}
 use Rattle.std.proofs.lemmas.List.FromFn.{sum_by-map-range_with_len_more, length-map-range_with_len}
 use Rattle.mp_model.specs.Arrivals.{KeepsTo}
@@ -38,8 +38,8 @@ row_keeps per burst rate h g T a n le keeps =
     let whole : T ≡ a + (n + rest) = omega arith in
     let from_a : 0 + a ≡ a = omega arith in
     let parts : map h (map g (range_with_len 0 T)) ≡ map f (range_with_len 0 a) ++ (map f (range_with_len a n) ++ map f (range_with_len (a + n) rest)) =
-        map_twice h g (range_with_len 0 T) ∙ ap (λ k. map f (range_with_len 0 k)) whole ∙ range_parts f 0 a (n + rest)
-        ∙ ap (λ y. map f (range_with_len 0 a) ++ map f (range_with_len y (n + rest))) from_a ∙ ap (λ ys. map f (range_with_len 0 a) ++ ys) (range_parts f a n rest) in
+    map_twice h g (range_with_len 0 T) ∙ ap (λ k. map f (range_with_len 0 k)) whole ∙ range_parts f 0 a (n + rest)
+    ∙ ap (λ y. map f (range_with_len 0 a) ++ map f (range_with_len y (n + rest))) from_a ∙ ap (λ ys. map f (range_with_len 0 a) ++ ys) (range_parts f a n rest) in
     let k = keeps (map f (range_with_len 0 a)) (map f (range_with_len a n)) (map f (range_with_len (a + n) rest)) parts in
     omega (arith, k, ap (λ s. per * s) (sum_total f a n), ap (λ s. rate * s) (length-map-range_with_len f a n))
 

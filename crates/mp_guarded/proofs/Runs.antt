@@ -1,23 +1,20 @@
 -- The guarded run by its own queues is a play whose counts are the queues.
-use Rattle.std.proofs.Common.{◌≡◌, ◌==◌, ℕ, zero, suc, ◌+◌, ◌-◌, ◌*◌, ◌%◌, ◌≤◌, ◌<◌, min, Bool, true, false, cond, ◌&&◌, nat_le, nat_lt, List, [], ◌∷◌, length, get_or, filter, map, sum_by, Option, Some, None, ℤ, pos, arith, refl, sym, ◌∙◌, ap, ap₂, subst, ⊎_elim, le_refl, zero-le, eq-eqb, eqb-true}
+use Rattle.std.proofs.Common.{◌≡◌, ◌==◌, ℕ, zero, suc, ◌+◌, ◌-◌, ◌*◌, ◌%◌, ◌≤◌, ◌<◌, min, Bool, true, false, cond, ◌&&◌, nat_le, nat_lt, List, [], ◌∷◌, length, get_or, map, Option, Some, None, ℤ, pos, arith, refl, sym, ◌∙◌, ap, ap₂, subst, ⊎_elim, eq-eqb, eqb-true}
 use Rattle.std.specs.List.{AllByRecursion, range_with_len, list_any}
 use Rattle.std.proofs.lemmas.Bool.{cases_lt, le-leb, leb-true, false≢true, or_left, or_right, or_cases}
 use Rattle.std.proofs.lemmas.List.FromFn.{get_or-map-range_with_len}
 use Rattle.mp_laws.proofs.FirstGreatest.{first_in}
-use Rattle.mp_laws.proofs.Lists.{at_in, each_in, eqb-turn, filter_has, filter_sub, has_filter, in_numbers, numbered}
+use Rattle.mp_laws.proofs.Lists.{at_in, each_in, filter_has, filter_sub, has_filter, in_numbers, numbered}
 use Rattle.mp_laws.proofs.Sums.{sum_by-same_at}
 use Rattle.mp_model.specs.Arrivals.{arrivals_of, IsPermitted}
 use Rattle.mp_model.specs.Guard.{Guard, Guards, GreensFit, CarryBursts, Holds, greens_at, red}
-use Rattle.mp_model.specs.GuardedChoice.{GuardedState, account_in, candidates_in, guarded_advance, guarded_opening, guarded_run, guarded_run_from, guarded_stage, guarded_stages, guarded_step, is_candidate, kept_or, next_account, no_account, passes_under}
-use Rattle.mp_model.specs.GuardedRun.{Account, IsCandidate, KeepsGuard, Play, account_of, first_arrivals, green_in, guarded_pass, guarded_state, is_green, needed_in, owed_in, paid, stage_of}
-use Rattle.mp_model.specs.Network.{Network, Junction, entry, flow_of, from_of, goes_out, goes_to, has, into_link, junction_at, junction_numbers, junction_of_movement, link_numbers, movement_numbers, no_junction, numbers_to, stage_at, stage_numbers, to_of}
+use Rattle.mp_model.specs.GuardedChoice.{GuardedState, account_in, candidates_in, guarded_advance, guarded_opening, guarded_run, guarded_run_from, guarded_stage, guarded_stages, is_candidate, kept_or, next_account, no_account, passes_under}
+use Rattle.mp_model.specs.GuardedRun.{Account, IsCandidate, KeepsGuard, Play, account_of, guarded_pass, guarded_state, is_green, needed_in, owed_in, paid, stage_of}
+use Rattle.mp_model.specs.Network.{Network, Junction, flow_of, from_of, goes_out, goes_to, has, into_link, junction_at, junction_numbers, junction_of_movement, link_numbers, movement_numbers, no_junction, stage_at, stage_numbers, to_of}
 use Rattle.mp_model.specs.NetworkRules.{IsNetwork}
 use Rattle.mp_model.specs.Pressure.{pressure}
-use Rattle.mp_model.specs.Run.{opening}
 use Rattle.mp_model.specs.Split.{first_greatest}
 use Rattle.mp_model.specs.Step.{State, got_by, new_queue, departing_by, queue, received_by, step_by}
-use Rattle.mp_guarded.specs.Bounds.{IsGuarded}
-use Rattle.mp_guarded.specs.Candidates.{HasCandidate}
 use Rattle.mp_guarded.specs.Greens.{KeepsGreens}
 use Rattle.mp_guarded.specs.Runs.{TakesCandidates, IsBounded}
 use Rattle.mp_guarded.proofs.Bounds.{queues_bounded}
@@ -175,7 +172,7 @@ module _ (net : Network) (ok : IsNetwork net) (guard : Guard) (guards : Guards n
   candidates_at : (t : ℕ) → TakesCandidates net guard (run_at t)
   candidates_at t = each_in (λ j. IsCandidate guard (junction_at net j) (queue (run_at t).state) (run_at t).state.period (account_in (run_at t) j) (guarded_stage net guard (junction_at net j) (queue (run_at t).state) (run_at t).state.period (account_in (run_at t) j))) (junction_numbers net)
       (λ j in'. subst (λ n. IsCandidate guard (junction_at net j) (queue (run_at t).state) n (account_in (run_at t) j) (guarded_stage net guard (junction_at net j) (queue (run_at t).state) n (account_in (run_at t) j))) (sym (period_is t))
-          (subst (λ account. IsCandidate guard (junction_at net j) (queue (run_at t).state) t account (guarded_stage net guard (junction_at net j) (queue (run_at t).state) t account)) (sym (account_is t j in')) (takes t (keeps_until t) j in')))
+      (subst (λ account. IsCandidate guard (junction_at net j) (queue (run_at t).state) t account (guarded_stage net guard (junction_at net j) (queue (run_at t).state) t account)) (sym (account_is t j in')) (takes t (keeps_until t) j in')))
 
   bounded_at : (surplus : ℕ → ℕ) (bursts : List ℕ) → CarryBursts net guard surplus bursts → (T : ℕ) → IsPermitted net (map arrivals (range_with_len 0 T)) → (t : ℕ) → t ≤ T → IsBounded net guard surplus bursts (run_at t)
   bounded_at surplus bursts carry T permitted t in_time = subst (λ state. AllByRecursion (λ k. (bound : ℕ) → Holds net guard (surplus k) bursts k (1 + 2 * red net guard k) bound → queue state k ≤ bound) (movement_numbers net)) (sym (state_is t))
@@ -187,9 +184,11 @@ module _ (net : Network) (ok : IsNetwork net) (guard : Guard) (guards : Guards n
   all_states P [] s same each = (each s (omega arith), tt)
   all_states P (a ∷ A) s same each =
       let place : s + 0 ≡ s = omega arith in
-      let here : arrivals s ≡ a = ap arrivals (sym place) ∙ same 0 (omega arith) in
-      (each s (omega arith), subst (λ x. AllByRecursion P (guarded_run_from net guard (guarded_advance net guard x (run_at s)) A)) here
-      (all_states P A (suc s) (λ i lt. (let next : suc s + i ≡ s + suc i = omega arith in ap arrivals next) ∙ same (suc i) (omega arith)) (λ t le. each t (omega arith))))
+      let here : arrivals s ≡ a = ap arrivals (sym place) ∙ same 0 (omega arith) in (
+        each s (omega arith),
+        subst (λ x. AllByRecursion P (guarded_run_from net guard (guarded_advance net guard x (run_at s)) A)) here
+            (all_states P A (suc s) (λ i lt. (let next : suc s + i ≡ s + suc i = omega arith in ap arrivals next) ∙ same (suc i) (omega arith)) (λ t le. each t (omega arith))),
+      )
 
 listed : (A : List (List ℕ)) (f : ℕ → List ℕ) (s : ℕ) → ((i : ℕ) → i < length A → f (s + i) ≡ get_or A i []) → map f (range_with_len s (length A)) ≡ A
 listed [] f s same = refl

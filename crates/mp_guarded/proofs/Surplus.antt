@@ -1,5 +1,5 @@
 -- Surpluses of one round, and of all vehicles.
-use Rattle.std.proofs.Common.{◌≡◌, ◌==◌, ℕ, zero, suc, ◌+◌, ◌*◌, ◌/◌, ◌%◌, ◌≤◌, ◌<◌, Bool, true, List, [], ◌∷◌, sum_by, arith, refl, sym, ◌∙◌, ap, subst, mod-lt, div-add-mod', eq-eqb}
+use Rattle.std.proofs.Common.{◌≡◌, ◌==◌, ℕ, ◌+◌, ◌*◌, ◌/◌, ◌%◌, ◌≤◌, true, arith, refl, sym, ◌∙◌, ap, mod-lt, div-add-mod', eq-eqb}
 use Rattle.std.specs.List.{AllByRecursion}
 use Rattle.mp_laws.proofs.Credits.{again}
 use Rattle.mp_laws.proofs.LinkSplits.{link_splits}

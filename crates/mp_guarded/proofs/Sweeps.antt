@@ -1,5 +1,5 @@
 -- Sweeps rise to the least bursts.
-use Rattle.std.proofs.Common.{◌≡◌, ◌==◌, ℕ, zero, suc, ◌+◌, ◌-◌, ◌*◌, ◌/◌, ◌≤◌, ◌<◌, true, List, [], ◌∷◌, length, map, sum_by, arith, refl, sym, ◌∙◌, ap, subst, ⊎_elim, mul-le-mul_left, zero-le, le_trans}
+use Rattle.std.proofs.Common.{◌≡◌, ℕ, zero, suc, ◌+◌, ◌-◌, ◌*◌, ◌≤◌, ◌<◌, true, List, length, arith, sym, ◌∙◌, ap, subst, ⊎_elim, mul-le-mul_left}
 use Rattle.std.proofs.Math.Nat.{le_of_mul-le-mul_left, lt-mul-div-succ, div-mul-le_self}
 use Rattle.std.specs.List.{AllByRecursion}
 use Rattle.std.proofs.lemmas.Bool.{cases_lt}
@@ -7,7 +7,7 @@ use Rattle.mp_laws.proofs.Lists.{at_in, each_in, filter_sub, numbered}
 use Rattle.mp_laws.proofs.Sums.{sum_by-le_at}
 use Rattle.mp_model.specs.Guard.{Guard, Guards, HasSurplus, CarryBursts, CarriesBurst, Holds, IsGuardedBound, crowd, guarded_rate, red}
 use Rattle.mp_model.specs.GuardedBursts.{quotient_up, least_holding, sweep, swept, AreAtRest, guarded_bound}
-use Rattle.mp_model.specs.Network.{Network, movement_numbers, entry, from_of, goes_to, has, into_link, share_of, start_of, burst_before, to_of}
+use Rattle.mp_model.specs.Network.{Network, movement_numbers, entry, from_of, goes_to, has, into_link, share_of, start_of, to_of}
 use Rattle.mp_model.specs.NetworkRules.{IsNetwork}
 use Rattle.mp_guarded.specs.Sweeps.{AreLeastBursts}
 

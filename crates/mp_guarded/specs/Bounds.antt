@@ -1,5 +1,5 @@
 -- The laws on what passes under a guard, and on the bound of each queue.
-use Rattle.std.specs.Prelude.{◌≡◌, ◌≤◌, ◌<◌, ℕ, zero, suc, ◌+◌, ◌*◌, List}
+use Rattle.std.specs.Prelude.{◌≤◌, ◌<◌, ℕ, zero, suc, ◌+◌, ◌*◌, List}
 use Rattle.std.specs.List.{AllByRecursion}
 use Rattle.mp_model.specs.Arrivals.{IsPermitted}
 use Rattle.mp_model.specs.Guard.{Guard, Guards, CarryBursts, Holds, guarded_rate, red}

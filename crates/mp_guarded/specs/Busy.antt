@@ -1,5 +1,5 @@
 -- The law on the queue of one movement: since when somebody has been waiting (Lindley 1952).
-use Rattle.std.specs.Prelude.{◌≡◌, ◌≤◌, ◌<◌, ℕ, zero, suc, ◌+◌, ◌*◌, min, Bool, cond}
+use Rattle.std.specs.Prelude.{◌≡◌, ◌≤◌, ◌<◌, ℕ, suc, ◌+◌, ◌*◌, min, Bool, cond}
 use Rattle.mp_guarded.specs.Greens.{greens_in}
 
 -- Of a movement, q is its queue at the beginning of each period and came is how many have joined it until then; a period in which it is green passes the lesser of its flow and its queue, and another passes 0.

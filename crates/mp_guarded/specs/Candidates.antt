@@ -1,7 +1,7 @@
 -- The law that a candidate is always there.
 use Rattle.std.specs.Prelude.{◌≤◌, ℕ, ◌+◌, ◌*◌, ◌%◌, List, length, sum, Option, Some, None}
 use Rattle.mp_model.specs.Guard.{Guard, owing}
-use Rattle.mp_model.specs.GuardedRun.{Account, IsCandidate, account_at, needed_in}
+use Rattle.mp_model.specs.GuardedRun.{IsCandidate, account_at, needed_in}
 use Rattle.mp_model.specs.Network.{Junction}
 use Rattle.mp_guarded.specs.Greens.{KeepsGreens}
 

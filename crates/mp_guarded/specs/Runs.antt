@@ -1,5 +1,5 @@
 -- The laws on the guarded run by its own queues.
-use Rattle.std.specs.Prelude.{◌≤◌, ◌<◌, ℕ, ◌+◌, ◌*◌, List}
+use Rattle.std.specs.Prelude.{◌≤◌, ℕ, ◌+◌, ◌*◌, List}
 use Rattle.std.specs.List.{AllByRecursion}
 use Rattle.mp_model.specs.Arrivals.{IsPermitted}
 use Rattle.mp_model.specs.Guard.{Guard, Guards, CarryBursts, Holds, red}

@@ -1,5 +1,5 @@
 -- The law on the bursts that sweeps find.
-use Rattle.std.specs.Prelude.{◌≡◌, ◌≤◌, ℕ, List, length}
+use Rattle.std.specs.Prelude.{◌≤◌, ℕ, List}
 use Rattle.std.specs.List.{AllByRecursion}
 use Rattle.mp_model.specs.Guard.{Guard, Guards, HasSurplus, CarryBursts, IsGuardedBound}
 use Rattle.mp_model.specs.GuardedBursts.{swept, AreAtRest, guarded_bound}

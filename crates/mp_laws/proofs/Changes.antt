@@ -1,17 +1,16 @@
 -- How far a queue changes in a period, and what old reports can shift.
-use Rattle.std.proofs.Common.{◌≡◌, ◌==◌, ℕ, zero, suc, ◌+◌, ◌-◌, ◌*◌, ◌/◌, ◌≤◌, ◌<◌, min, max, Bool, true, false, cond, ◌&&◌, List, [], ◌∷◌, length, sum_by, Option, Some, None, nat_lt, add-zero, add-suc, arith, refl, sym, ap, subst, le_trans, mul-le-mul_left, zero-le, eq-eqb, eqb-true, le_refl}
+use Rattle.std.proofs.Common.{◌≡◌, ◌==◌, ℕ, zero, suc, ◌+◌, ◌-◌, ◌*◌, ◌/◌, ◌≤◌, ◌<◌, min, true, cond, ◌&&◌, List, [], sum_by, Option, Some, None, nat_lt, add-zero, add-suc, arith, sym, subst, le_trans, mul-le-mul_left, le_refl}
 use Rattle.std.proofs.Math.Nat.{le_of_mul-le-mul_left, lt-mul-div-succ}
 use Rattle.std.specs.List.{AllByRecursion, IsDistinct}
 use Rattle.mp_model.specs.Bounds.{greatest_change, report_shift}
 use Rattle.mp_model.specs.Network.{Network, Junction, movement_numbers, link_numbers, link_at, from_of, to_of, share_of, flow_of, out_of, out_of_target, into_link, downstream, own, has, stands_in, stage_at}
 use Rattle.mp_model.specs.NetworkRules.{IsNetwork, HasStages}
-use Rattle.mp_model.specs.Pressure.{queued_downstream, positive_weight, positive_weight_by, pressure, pressure_by, IsGreatestStageBy}
+use Rattle.mp_model.specs.Pressure.{positive_weight, positive_weight_by, IsGreatestStageBy}
 use Rattle.mp_model.specs.Split.{first_greatest, credit_of, split_counts}
 use Rattle.mp_model.specs.Step.{passed, joined, got, has_green}
 use Rattle.mp_laws.specs.Periods.{IsLinkPeriod, IsPeriod, IsWithin}
 use Rattle.mp_laws.specs.Reports.{DifferBy}
-use Rattle.mp_laws.specs.Stages.{IsNearlyGreatest, pressure_shift}
-use Rattle.mp_laws.proofs.Distinct.{range_distinct}
+use Rattle.mp_laws.specs.Stages.{IsNearlyGreatest}
 use Rattle.mp_laws.proofs.Drift.{cond-le}
 use Rattle.mp_laws.proofs.Lists.{AllOf-map, at_in, each_in, has_filter, at_index, filter_sub}
 use Rattle.mp_laws.proofs.Serve.{spread, stage_in}

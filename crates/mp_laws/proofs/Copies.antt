@@ -1,7 +1,7 @@
 -- What junctions have heard: tables of copies, what a hearing and a closing change of them, and their ages.
-use Rattle.std.proofs.Common.{◌≡◌, ◌==◌, ℕ, zero, suc, ◌+◌, ◌-◌, ◌≤◌, ◌<◌, Bool, true, false, cond, ◌||◌, nat_le, List, [], ◌∷◌, length, get_or, set, map, Option, Some, None, IfSome, is_none, arith, refl, sym, ◌∙◌, ap, subst, eqb-true, eq-eqb}
+use Rattle.std.proofs.Common.{◌≡◌, ◌==◌, ℕ, zero, suc, ◌+◌, ◌≤◌, ◌<◌, Bool, true, false, cond, ◌||◌, nat_le, List, [], ◌∷◌, length, get_or, set, map, Option, Some, None, IfSome, arith, refl, sym, ◌∙◌, ap, eqb-true}
 use Rattle.std.specs.List.{AllByRecursion}
-use Rattle.std.proofs.lemmas.Bool.{false≢true, true≢false, le-leb, leb-true}
+use Rattle.std.proofs.lemmas.Bool.{false≢true, le-leb, leb-true}
 use Rattle.mp_model.specs.Arrivals.{count_in}
 use Rattle.mp_model.specs.EventCore.{Copy, accepted, copy_beside, with_copy}
 use Rattle.mp_model.specs.EventPeriods.{age_of}

@@ -1,5 +1,5 @@
 -- Copies are near the queues of now, and within the bounds; decided stages are nearly greatest.
-use Rattle.std.proofs.Common.{◌≡◌, ◌==◌, ℕ, zero, suc, ◌+◌, ◌-◌, ◌*◌, ◌≤◌, ◌<◌, true, List, [], ◌∷◌, length, get_or, map, zip, Option, Some, None, IfSome, unwrap_or, arith, refl, sym, ◌∙◌, ap, subst, mul-le-mul_right, zero-le}
+use Rattle.std.proofs.Common.{◌≡◌, ◌==◌, ℕ, zero, suc, ◌-◌, ◌*◌, ◌≤◌, ◌<◌, true, List, [], ◌∷◌, length, get_or, map, Option, Some, None, arith, sym, ◌∙◌, ap, subst, zero-le}
 use Rattle.std.specs.List.{AllByRecursion}
 use Rattle.mp_laws.specs.Copies.{IsNear, KeepsCopies, AreAlike}
 use Rattle.mp_laws.specs.Order.{history_of}
@@ -22,7 +22,7 @@ use Rattle.mp_model.specs.EventCore.{Copy, Event, closed_of, copy_of, core_after
 use Rattle.mp_model.specs.EventPeriods.{ages_after, no_ages, periods_of}
 use Rattle.mp_model.specs.Network.{Network, Junction, entry, from_of, has, junction_at, junction_numbers, link_at, link_numbers, movement_numbers, no_junction, out_of}
 use Rattle.mp_model.specs.NetworkRules.{IsNetwork, HasStages}
-use Rattle.mp_model.specs.Reports.{History, Period, IsTimelyAge, advance_by, first_history, history_after, reported_queue, reported_run_from, reported_run, reported_stage, reported_stages, state_ago}
+use Rattle.mp_model.specs.Reports.{History, Period, advance_by, first_history, history_after, reported_queue, reported_run_from, reported_stage, reported_stages, state_ago}
 use Rattle.mp_model.specs.Run.{opening, state_after}
 use Rattle.mp_model.specs.Slack.{IsSlack}
 use Rattle.mp_model.specs.Step.{State, queue, step}

@@ -1,7 +1,7 @@
 -- With a delay of 0 the core follows the run of the arrivals that it closed.
-use Rattle.std.proofs.Common.{◌≡◌, ℕ, ◌≤◌, ◌+◌, List, [], ◌∷◌, map, length, arith, refl, sym, ◌∙◌, ap, subst}
+use Rattle.std.proofs.Common.{◌≡◌, ℕ, ◌+◌, List, [], ◌∷◌, map, arith, refl, ◌∙◌, ap, subst}
 use Rattle.std.specs.List.{AllByRecursion}
-use Rattle.mp_laws.specs.Order.{Agrees, history_of}
+use Rattle.mp_laws.specs.Order.{Agrees}
 use Rattle.mp_laws.proofs.Lists.{AllOf-map}
 use Rattle.mp_laws.proofs.Order.{follows_run}
 use Rattle.mp_laws.proofs.Reported.{zero_stages}
@@ -12,7 +12,7 @@ use Rattle.mp_model.specs.Network.{Network}
 use Rattle.mp_model.specs.NetworkRules.{IsNetwork}
 use Rattle.mp_model.specs.Reports.{AllTimely, History, IsTimelyAge, Period, first_history, history_after, advance_by}
 use Rattle.mp_model.specs.Run.{opening, state_after}
-use Rattle.mp_model.specs.Step.{State, step}
+use Rattle.mp_model.specs.Step.{step}
 
 no_age : (net : Network) → net.delay ≡ 0 → (before : ℕ) (ages : List ℕ) → AllByRecursion (IsTimelyAge net before) ages → AllByRecursion (λ (n : ℕ). n ≡ 0) ages
 no_age net prompt before ages timely = AllOf-map (IsTimelyAge net before) (λ (n : ℕ). n ≡ 0) (λ n t. let young = t.0 in omega arith) ages timely

@@ -1,5 +1,5 @@
 -- The bound of a run whose junctions decide by old reports.
-use Rattle.std.proofs.Common.{◌≡◌, ◌==◌, ℕ, zero, suc, ◌+◌, ◌-◌, ◌*◌, ◌≤◌, Bool, true, false, cond, List, [], ◌∷◌, length, get_or, map, zip, sum_by, pos, arith, refl, sym, ◌∙◌, ap, ap₂, subst, le_trans, mul-le-mul_right, zero-le}
+use Rattle.std.proofs.Common.{◌≡◌, ◌==◌, ℕ, zero, suc, ◌+◌, ◌-◌, ◌*◌, ◌≤◌, Bool, true, false, cond, List, [], ◌∷◌, length, get_or, map, zip, pos, arith, refl, sym, ◌∙◌, ap, ap₂, subst, mul-le-mul_right, zero-le}
 use Rattle.std.specs.List.{AllByRecursion}
 use Rattle.std.proofs.lemmas.List.{length-map}
 use Rattle.mp_model.specs.Arrivals.{arrivals_of, next_level, count_in, IsPermitted, StaysWithin}
@@ -9,8 +9,8 @@ use Rattle.mp_model.specs.DriftValue.{drift_value}
 use Rattle.mp_model.specs.Network.{Network, Junction, movement_numbers, link_numbers, link_at, numbers_to, from_of, flow_of, downstream, share_of, has, stage_at, targets, entry}
 use Rattle.mp_model.specs.NetworkRules.{IsNetwork, HasStages}
 use Rattle.mp_model.specs.Pressure.{pressure, pressure_by, greatest_stage, positive_weight, positive_weight_by}
-use Rattle.mp_model.specs.Reports.{Period, History, state_ago, reported_queue, reported_stage, reported_stages, advance_by, first_history, reported_run_from, reported_run, IsTimelyAge, AreTimely, AllTimely, ages_of_now, prompt_period}
-use Rattle.mp_model.specs.Run.{opening, advance, run, run_from}
+use Rattle.mp_model.specs.Reports.{Period, History, state_ago, reported_queue, reported_stage, reported_stages, advance_by, first_history, reported_run_from, reported_run, IsTimelyAge, AllTimely, ages_of_now, prompt_period}
+use Rattle.mp_model.specs.Run.{run_from}
 use Rattle.mp_model.specs.Slack.{IsSlack}
 use Rattle.mp_model.specs.Step.{State, queue, step}
 use Rattle.mp_laws.specs.Periods.{IsWithin, phase_of}

@@ -1,10 +1,10 @@
 -- Worked networks with start queues and old reports meet the premises of the laws.
-use Rattle.std.proofs.Common.{◌≡◌, ℕ, ◌≤◌, [], ◌∷◌, refl, arith, lit≤, lit<}
+use Rattle.std.proofs.Common.{[], ◌∷◌, refl, lit≤, lit<}
 use Rattle.std.specs.List.{IsDistinct}
 use Rattle.mp_model.specs.Certificate.{Certifies}
-use Rattle.mp_model.specs.NetworkRules.{IsNetwork, IsAcceptable}
+use Rattle.mp_model.specs.NetworkRules.{IsAcceptable}
 use Rattle.mp_model.specs.Worked.{two_approaches_from, two_approaches_cert, delayed_tandem, tandem_cert}
-use Rattle.mp_laws.specs.Cases.{StartedCase, DelayedCase, delayed_periods}
+use Rattle.mp_laws.specs.Cases.{StartedCase, DelayedCase}
 use Rattle.mp_laws.proofs.Cases.{le, two_case, two_slack, tandem_case, tandem_slack}
 
 started_acceptable : IsAcceptable (two_approaches_from 50 30)

@@ -1,11 +1,9 @@
 -- Worked cases of start queues and old reports, each computed from the definitions.
-use Rattle.std.proofs.Common.{◌≡◌, ℕ, ◌-◌, List, [], ◌∷◌, map, codes, refl, lit≤, lit<}
+use Rattle.std.proofs.Common.{◌≡◌, List, [], ◌∷◌, map, codes, refl, lit≤, lit<}
 use Rattle.std.specs.Fmt.{digits}
 use Rattle.mp_model.specs.Bounds.{drift_constant, queue_threshold, greatest_drift, start_drift, AreBounds}
 use Rattle.mp_model.specs.Log.{log_text}
-use Rattle.mp_model.specs.Network.{Network}
-use Rattle.mp_model.specs.Reports.{Period, AllTimely, reported_run}
-use Rattle.mp_model.specs.Step.{queue}
+use Rattle.mp_model.specs.Reports.{Period, reported_run}
 use Rattle.mp_model.specs.Worked.{two_approaches_from, delayed_tandem, delayed_merge}
 
 -- 50 and 30 vehicles stand at the start

@@ -1,5 +1,5 @@
 -- Guards: what each stage is owed in a cycle, the rules of a guard, and the bursts and bounds that follow from it.
-use Rattle.std.specs.Prelude.{◌≡◌, ◌==◌, ◌≤◌, ℕ, ◌+◌, ◌-◌, ◌*◌, Bool, false, true, cond, not, ◌&&◌, ◌||◌, nat_lt, List, [], ◌∷◌, length, sum, sum_by, slice_index_or}
+use Rattle.std.specs.Prelude.{◌≡◌, ◌≤◌, ℕ, ◌+◌, ◌-◌, ◌*◌, Bool, cond, nat_lt, List, [], ◌∷◌, length, sum, sum_by, slice_index_or}
 use Rattle.std.specs.List.{AllByRecursion, list_all}
 use Rattle.mp_model.specs.Network.{Network, Junction, movement_numbers, junction_numbers, junction_at, junction_of_movement, from_of, share_of, flow_of, start_of, rate_before, burst_before, into_link, has, entry}
 use Rattle.mp_model.specs.Step.{joined}

@@ -1,5 +1,5 @@
 -- What the stages of a junction owe from period to period, which stages are candidates, and the run under a guard.
-use Rattle.std.specs.Prelude.{◌≡◌, ◌==◌, ◌≤◌, ℕ, zero, suc, ◌+◌, ◌-◌, ◌*◌, ◌%◌, min, Bool, false, cond, not, ◌&&◌, ◌||◌, nat_lt, List, [], length, map, sum, Option, Some, None, slice_set, find}
+use Rattle.std.specs.Prelude.{◌≡◌, ◌==◌, ◌≤◌, ℕ, zero, suc, ◌+◌, ◌-◌, ◌*◌, ◌%◌, min, Bool, false, cond, not, ◌&&◌, ◌||◌, nat_lt, List, length, map, sum, Option, Some, None, slice_set, find}
 use Rattle.std.specs.List.{AllByRecursion, list_all, range_with_len}
 use Rattle.mp_model.specs.Arrivals.{arrivals_of}
 use Rattle.mp_model.specs.Guard.{Guard, greens_at, is_always_green, owing}
