@@ -28,7 +28,7 @@ use Rattle.mp_cli.specs.declared.outcome.Outcome.{Outcome}
 use Rattle.mp_cli.specs.declared.outcome.Outcome.TheVariants.{Done, Run as Ran, Store, Network as BadNetwork, LongText, Text, Critical, Overloaded, Certificate, ZeroVector, WeakVector, NoCertificate, Overflow, PivotLimit, SweepLimit, Differs, Read, Write, NoMemory}
 use Rattle.mp_cli.specs.Auditing.{audit_line, Compares}
 use Rattle.mp_cli.specs.Checking.{RefusesCert}
-use Rattle.mp_cli.specs.Commands.{Command, Run, RunWith, Show, Certify, Check, Refute, Audit, AuditWith, Demo, Scale, Unknown}
+use Rattle.mp_cli.specs.Commands.{Command, Run, RunWith, Show, Certify, Check, Refute, Audit, AuditWith, Control, Demo, Scale, Unknown}
 use Rattle.mp_cli.specs.Complete.{IsGoodFile, IsGoodText, IsGoodStream, IsExcessiveStream, IsGoodLog, IsRunnableCert, IsGoodVector, IsAdmittable, CanRun, IsGood, IsExcessive}
 use Rattle.mp_cli.specs.Ends.{Means}
 use Rattle.mp_cli.specs.Opening.{Reads, RefusesNetwork, RefusesText}
@@ -40,6 +40,7 @@ use Rattle.mp_cli.specs.Sessions.{IsUnopened, IsUnaccepted}
 use Rattle.mp_cli.specs.Statuses.{status_of}
 use Rattle.mp_press.specs.Queues.{naturals}
 use Rattle.mp_cli.specs.Verdicts.{IsUnadmitted, IsUnfinished, OfAdmitted}
+use Rattle.mp_cli.proofs.ControlLemmas.{good_input}
 use Rattle.mp_cli.proofs.VectorLemmas.{no_sum}
 
 -- a status, unless memory ran out
@@ -265,6 +266,10 @@ completes (AuditWith net cert) outcome ports quiet good means =
     goes 0 outcome (of_good (cert_meaning good.value) ports.files cert _ _ given read) (session_memory outcome good.value given.value given.is.0) (λ opens.
     let under = opens.holds.holds in
     compared outcome good.value ports (IsSlack given.value) opens.holds.num opens.holds.den under.bounds quiet given.is.1 opens.holds.slack under.are under.is)))
+completes (Control net) outcome ports quiet good means =
+    goes 0 outcome means (network_memory outcome ports.files net _ quiet good) (λ reads.
+    let on = of_good file_meaning ports.files net _ _ good reads in
+    inl (good_input outcome good.value ports quiet.read quiet.write good.is on.1))
 completes (Demo n) outcome ports quiet good means =
     goes 0 outcome means (λ is. verdict_memory outcome (demo_network n) good.admitted (unfinished outcome (demo_network n) is)) (λ admitted.
     goes 0 outcome (of_admitted (demo_network n) _ good.admitted admitted) (opening_memory outcome (demo_network n) good.admitted.cert good.under) (λ opens.

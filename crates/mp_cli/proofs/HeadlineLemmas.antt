@@ -16,7 +16,7 @@ use Rattle.mp_netfile.specs.Meaning.{file_meaning}
 use Rattle.mp_run.specs.declared.run.RunEnd.TheVariants as how
 use Rattle.mp_cli.specs.declared.outcome.Outcome.{Outcome}
 use Rattle.mp_cli.specs.declared.outcome.Outcome.TheVariants.{Done, Run as Ran}
-use Rattle.mp_cli.specs.Commands.{Command, Run, RunWith, Show, Certify, Check, Refute, Audit, AuditWith, Demo, Scale, Unknown}
+use Rattle.mp_cli.specs.Commands.{Command, Run, RunWith, Show, Certify, Check, Refute, Audit, AuditWith, Control, Demo, Scale, Unknown}
 use Rattle.mp_cli.specs.Auditing.{Compares}
 use Rattle.mp_cli.specs.Demonstrating.{IsShownRun}
 use Rattle.mp_cli.specs.Ends.{Means}
@@ -78,6 +78,7 @@ does_done (Audit net) ports means = of_reads file_meaning ports.files net _ _ (w
 does_done (AuditWith net cert) ports means =
     of_reads file_meaning ports.files net _ _ (went means (λ no. no)) (λ n on.
     of_reads (cert_meaning n) ports.files cert _ _ (went on.1 (λ no. no)) (λ c session. with_cert Done n ports _ _ c (λ no. no) (λ num den bounds is. is) session))
+does_done (Control net) ports means = absurd (went means (λ no. no)).is.1
 does_done (Demo n) ports means = greatest_of Done (demo_network n) ports _ _ (λ cert no. no) (λ num den bounds is. is) (went means (λ no. no))
 does_done (Scale net d) ports means = of_reads file_meaning ports.files net _ _ (went means (λ no. no)) (λ n on. let found = went on.1 (λ no. no) in (found.cert, found.is))
 does_done Unknown ports means = absurd (let no = means.0 in cc)
@@ -100,6 +101,7 @@ does_run (AuditWith net cert) ports means =
     let read = went on.is.1 (λ no. no) in
     let none : HoldsWith on.value (λ num den bounds. ⊥) read.value = with_cert (Ran how.Done) on.value ports (Compares (Ran how.Done) on.value ports) _ read.value (λ no. no) (λ num den bounds is. is.written) read.is in
     absurd none.holds.is
+does_run (Control net) ports means = of_reads file_meaning ports.files net _ _ (went means (λ no. no)) (λ n on. on.1)
 does_run (Demo n) ports means =
     let none : HoldsWithGreatest (demo_network n) (λ num den bounds. ⊥) = greatest_of (Ran how.Done) (demo_network n) ports (IsShownRun (Ran how.Done) (demo_network n) n ports) _ (λ cert no. no) (λ num den bounds is. is.answers.1) (went means (λ no. no)) in
     absurd none.holds.is
@@ -155,6 +157,7 @@ promised (Check net cert) outcome ports done means = promise_on outcome net port
 promised (Refute net vector) outcome ports done means = promise_on outcome net ports _ (not_refused outcome ports.files net done) means
 promised (Audit net) outcome ports done means = promise_on outcome net ports _ (not_refused outcome ports.files net done) means
 promised (AuditWith net cert) outcome ports done means = promise_on outcome net ports _ (not_refused outcome ports.files net done) means
+promised (Control net) outcome ports done means = promise_on outcome net ports _ (not_refused outcome ports.files net done) means
 promised (Demo n) outcome ports done means = promise_of (demo_network n) (demo_acceptable n).network
 promised (Scale net d) outcome ports done means = promise_on outcome net ports _ (not_refused outcome ports.files net done) means
 promised Unknown outcome ports done means = absurd (let wrong = means.0 in omega (arith, ap status_of wrong))

@@ -17,6 +17,7 @@ pub data Command : Type 0 where
   Refute : List ℕ → List ℕ → Command
   Audit : List ℕ → Command
   AuditWith : List ℕ → List ℕ → Command
+  Control : List ℕ → Command
   Demo : ℕ → Command
   Scale : List ℕ → ℕ → Command
   Unknown : Command
@@ -31,6 +32,7 @@ asked (said.Check net cert) = Check net.now cert.now
 asked (said.Refute net vector) = Refute net.now vector.now
 asked (said.Audit net) = Audit net.now
 asked (said.AuditWith net cert) = AuditWith net.now cert.now
+asked (said.Control net) = Control net.now
 asked (said.Demo n) = Demo n
 asked (said.Scale net d) = Scale net.now d
 asked said.Unknown = Unknown
@@ -65,6 +67,7 @@ command_on_one word net =
     else if is_word word (codes "show") then Show net
     else if is_word word (codes "certify") then Certify net
     else if is_word word (codes "audit") then Audit net
+    else if is_word word (codes "control") then Control net
     else if is_word word (codes "demo") then demo_of net
     else Unknown
 
@@ -103,5 +106,6 @@ file_of (Refute net vector) Other = vector
 file_of (Audit net) Net = net
 file_of (AuditWith net cert) Net = net
 file_of (AuditWith net cert) Other = cert
+file_of (Control net) Net = net
 file_of (Scale net d) Net = net
 file_of command role = []

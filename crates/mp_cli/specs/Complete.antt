@@ -4,6 +4,7 @@ use Rattle.mp_edge.specs.Outside.{file_named}
 use Rattle.mp_model.specs.Arrivals.{IsPermitted}
 use Rattle.mp_model.specs.Bounds.{AreBounds}
 use Rattle.mp_model.specs.Certificate.{Cert}
+use Rattle.mp_model.specs.ControlLog.{InputLine}
 use Rattle.mp_model.specs.Load.{ShowsOverload, IsTight}
 use Rattle.mp_model.specs.Network.{Network}
 use Rattle.mp_model.specs.Slack.{IsSlack, IsGreatestSlack}
@@ -13,6 +14,7 @@ use Rattle.mp_model.specs.declared.limits.TheConstants.{MOST_FILE_BYTES, MOST_LI
 use Rattle.mp_cert.specs.Checking.{check_outcome}
 use Rattle.mp_cert.specs.TextMeaning.{cert_meaning, vector_meaning}
 use Rattle.mp_cert.specs.Weighing.{weighed}
+use Rattle.mp_control.specs.Controlling as control
 use Rattle.mp_gen.specs.DemoNetwork.{demo_network}
 use Rattle.mp_netfile.specs.Meaning.{file_meaning}
 use Rattle.mp_num.specs.Fraction.{Fraction}
@@ -20,7 +22,7 @@ use Rattle.mp_run.specs.Running.{StartsWith, IsAboveAt}
 use Rattle.mp_trial.specs.Search.{scaled, Found}
 use Rattle.mp_verdict.specs.Stated.{Reached}
 use Rattle.mp_verdict.specs.Verdict.{verdict, Admitted}
-use Rattle.mp_cli.specs.Commands.{Command, Run, RunWith, Show, Certify, Check, Refute, Audit, AuditWith, Demo, Scale, Unknown}
+use Rattle.mp_cli.specs.Commands.{Command, Run, RunWith, Show, Certify, Check, Refute, Audit, AuditWith, Control, Demo, Scale, Unknown}
 use Rattle.mp_cli.specs.Ports.{Files}
 use Rattle.mp_cli.specs.Refuting.{IsFormed}
 use Rattle.mp_cli.specs.Sessions.{HasBounds}
@@ -66,6 +68,14 @@ pub record IsGoodLog (net : Network) (P : ℕ → ℕ → Type 0) (left : Option
   pub told : left ≡ Some text
   pub whole : (num den : ℕ) (bounds : List ℕ) → P num den → AreBounds net num den bounds → IsWholeLog net num den bounds text
 
+-- The input is told, and has at most 2^48 lines, each of them skipped or of counts.
+pub record IsGoodInput (net : Network) (left : Option (List ℕ)) : Type 0 where
+  pub text : List ℕ
+  pub told : left ≡ Some text
+  pub lines : List InputLine
+  pub all : control.StartsWith net text lines []
+  pub few : length lines ≤ MOST_LINES
+
 -- No calculation of the check of a certificate or of its bounds exceeds 128 bits, the certificate keeps all rules, and there is room for the bounds.
 pub record IsRunnableCert (net : Network) (cert : Cert) : Type 0 where
   pub checked : check_outcome net cert ≡ Ok tt
@@ -104,6 +114,7 @@ IsGood (Check net cert) files left = IsGoodFile file_meaning files net (λ n. Is
 IsGood (Refute net vector) files left = IsGoodFile file_meaning files net (λ n. IsGoodText (vector_meaning n) files vector (IsGoodVector n))
 IsGood (Audit net) files left = IsGoodFile file_meaning files net (λ n. IsRunnable n × IsGoodLog n (IsGreatestSlack n) left)
 IsGood (AuditWith net cert) files left = IsGoodFile file_meaning files net (λ n. IsGoodText (cert_meaning n) files cert (λ c. IsRunnableCert n c × IsGoodLog n (IsSlack c) left))
+IsGood (Control net) files left = IsGoodFile file_meaning files net (λ n. IsGoodInput n left)
 IsGood (Demo n) files left = IsRunnable (demo_network n)
 IsGood (Scale net d) files left = IsGoodFile file_meaning files net (λ n. (cert : Cert) × (scaled n d ≡ Found cert))
 IsGood Unknown files left = ⊥

@@ -3,7 +3,7 @@ use Rattle.std.specs.Prelude.{◌≡◌, ◌⊎◌, ◌++◌, ℕ, List, Option}
 use Rattle.mp_edge.specs.Outside.{Tells, Rose, GainsPrefix}
 use Rattle.mp_cli.specs.declared.outcome.Outcome.{Outcome}
 use Rattle.mp_cli.specs.declared.outcome.Outcome.TheVariants.{Words}
-use Rattle.mp_cli.specs.Commands.{Command, Run, RunWith, Show, Certify, Check, Refute, Audit, AuditWith, Demo, Scale, Unknown, command_of}
+use Rattle.mp_cli.specs.Commands.{Command, Run, RunWith, Show, Certify, Check, Refute, Audit, AuditWith, Control, Demo, Scale, Unknown, command_of}
 use Rattle.mp_cli.specs.Ports.{Ports, IsUntouched}
 use Rattle.mp_cli.specs.Running.{Runs}
 use Rattle.mp_cli.specs.RunningWith.{RunsWith}
@@ -13,6 +13,7 @@ use Rattle.mp_cli.specs.Checking.{Checks}
 use Rattle.mp_cli.specs.Refuting.{Refutes}
 use Rattle.mp_cli.specs.Auditing.{Audits}
 use Rattle.mp_cli.specs.AuditingWith.{AuditsWith}
+use Rattle.mp_cli.specs.Controlling.{Controls}
 use Rattle.mp_cli.specs.Demonstrating.{Demonstrates}
 use Rattle.mp_cli.specs.Scaling.{Scales}
 use Rattle.mp_cli.specs.Statuses.{status_of}
@@ -28,6 +29,7 @@ Means (Check net cert) outcome ports = Checks outcome net cert ports
 Means (Refute net vector) outcome ports = Refutes outcome net vector ports
 Means (Audit net) outcome ports = Audits outcome net ports
 Means (AuditWith net cert) outcome ports = AuditsWith outcome net cert ports
+Means (Control net) outcome ports = Controls outcome net ports
 Means (Demo n) outcome ports = Demonstrates outcome n ports
 Means (Scale net d) outcome ports = Scales outcome net d ports
 Means Unknown outcome ports = (outcome ≡ Words) × IsUntouched ports

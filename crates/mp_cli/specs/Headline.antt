@@ -11,9 +11,10 @@ use Rattle.mp_model.specs.Step.{State, queue, queued, step}
 use Rattle.mp_cert.specs.TextMeaning.{cert_meaning, vector_meaning}
 use Rattle.mp_gen.specs.DemoNetwork.{demo_network}
 use Rattle.mp_netfile.specs.Meaning.{file_meaning}
+use Rattle.mp_control.specs.Controlling as control
 use Rattle.mp_run.specs.Running.{Finished}
 use Rattle.mp_cli.specs.declared.outcome.Outcome.TheVariants.{Done}
-use Rattle.mp_cli.specs.Commands.{Command, Run, RunWith, Show, Certify, Check, Refute, Audit, AuditWith, Demo, Scale, Unknown}
+use Rattle.mp_cli.specs.Commands.{Command, Run, RunWith, Show, Certify, Check, Refute, Audit, AuditWith, Control, Demo, Scale, Unknown}
 use Rattle.mp_cli.specs.Opening.{Reads}
 use Rattle.mp_cli.specs.Ports.{Ports}
 use Rattle.mp_cli.specs.Sessions.{HoldsWith, HoldsWithGreatest}
@@ -30,6 +31,10 @@ use Rattle.mp_cli.specs.Scaling.{WritesScaled}
 abbrev pub WritesLog : Network → Ports → ℕ → ℕ → List ℕ → Type 0
 WritesLog net ports num den bounds = Finished net (text_of (header_lines net num den bounds)) ports.input_before ports.input_after ports.output_before ports.output_after
 
+-- The lines of counts were read to their end, and the control log was put, each of whose answers has the stages of greatest pressure at its counts.
+abbrev pub WritesAnswers : Network → Ports → Type 0
+WritesAnswers net ports = control.Finished net ports.input_before ports.input_after ports.output_before ports.output_after
+
 -- This is what each command has done where the status is 0.
 abbrev pub Does : Command → Ports → Type 0
 Does (Run net) ports = Reads file_meaning ports.files net (λ n. HoldsWithGreatest n (WritesLog n ports))
@@ -40,6 +45,7 @@ Does (Check net cert) ports = Reads file_meaning ports.files net (λ n. Reads (c
 Does (Refute net vector) ports = Reads file_meaning ports.files net (λ n. Reads (vector_meaning n) ports.files vector (λ p. SpeaksAgainst Done n ports (naturals p)))
 Does (Audit net) ports = Reads file_meaning ports.files net (λ n. HoldsWithGreatest n (IsShownWhole Done n ports))
 Does (AuditWith net cert) ports = Reads file_meaning ports.files net (λ n. Reads (cert_meaning n) ports.files cert (HoldsWith n (IsShownWhole Done n ports)))
+Does (Control net) ports = Reads file_meaning ports.files net (λ n. WritesAnswers n ports)
 Does (Demo n) ports = HoldsWithGreatest (demo_network n) (IsShownRun Done (demo_network n) n ports)
 Does (Scale net d) ports = Reads file_meaning ports.files net (λ n. (cert : Cert) × WritesScaled Done n d ports cert)
 Does Unknown ports = ⊥
@@ -73,6 +79,7 @@ OfNetwork (Check net cert) ports P = Reads file_meaning ports.files net P
 OfNetwork (Refute net vector) ports P = Reads file_meaning ports.files net P
 OfNetwork (Audit net) ports P = Reads file_meaning ports.files net P
 OfNetwork (AuditWith net cert) ports P = Reads file_meaning ports.files net P
+OfNetwork (Control net) ports P = Reads file_meaning ports.files net P
 OfNetwork (Demo n) ports P = P (demo_network n)
 OfNetwork (Scale net d) ports P = Reads file_meaning ports.files net P
 OfNetwork Unknown ports P = ⊥

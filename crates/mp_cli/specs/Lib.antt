@@ -14,6 +14,7 @@ pub mod Checking
 pub mod Refuting
 pub mod Auditing
 pub mod AuditingWith
+pub mod Controlling
 pub mod Demonstrating
 pub mod Scaling
 pub mod Ends

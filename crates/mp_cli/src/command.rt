@@ -24,6 +24,8 @@ pub enum Command<'a> {
     Audit { net: &'a str },
     /// `auditwith NET CERT`: the same, of the log with the slack of the certificate.
     AuditWith { net: &'a str, cert: &'a str },
+    /// `control NET`: the stages of greatest pressure for each line of counts on the input.
+    Control { net: &'a str },
     /// `demo N`: a long run on a network of the program's own, by its number of at most 9 digits.
     Demo(u64),
     /// `scale NET D`: the greatest certificate with the denominator D, of at most 9 digits.
@@ -75,6 +77,8 @@ fn command_on_one<'a>(word: &str, net: &'a str) -> Command<'a>
         Command::Certify { net }
     } else if is_word(word, "audit") {
         Command::Audit { net }
+    } else if is_word(word, "control") {
+        Command::Control { net }
     } else if is_word(word, "demo") {
         demo_of(net)
     } else {
@@ -125,6 +129,7 @@ pub fn file_of<'a>(command: Command<'a>, role: FileRole) -> &'a str
         (FileRole::Other, Command::Refute { vector, .. }) => vector,
         (FileRole::Net, Command::Run { net } | Command::Show { net }) => net,
         (FileRole::Net, Command::Certify { net } | Command::Audit { net }) => net,
+        (FileRole::Net, Command::Control { net }) => net,
         (FileRole::Net, Command::RunWith { net, .. } | Command::Check { net, .. }) => net,
         (FileRole::Net, Command::AuditWith { net, .. }) => net,
         (FileRole::Net, Command::Refute { net, .. } | Command::Scale { net, .. }) => net,

@@ -6,6 +6,7 @@ mod auditing_with;
 mod certifying;
 mod checking;
 mod command;
+mod controlling;
 mod demonstrating;
 mod message;
 mod opening;

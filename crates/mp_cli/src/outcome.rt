@@ -67,9 +67,9 @@ pub fn broken_rule(fault: CertFault) -> Option<CertRule>
 /// How a command ends.
 #[derive(Debug, Drop)]
 pub enum Outcome {
-    /// It did what was asked, where that is no run of a stream.
+    /// It did what was asked, where that is no run of a stream and no control.
     Done,
-    /// The run of the stream ended so.
+    /// The run of the stream, or the controller, ended so.
     Run(RunEnd),
     /// The words are not listed.
     Words,

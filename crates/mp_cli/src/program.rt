@@ -12,6 +12,7 @@ use crate::auditing_with::audit_with;
 use crate::certifying::certify;
 use crate::checking::check;
 use crate::command::{Command, command_of};
+use crate::controlling::control;
 use crate::demonstrating::demo;
 use crate::message::put_message;
 use crate::outcome::{Outcome, status_of};
@@ -46,6 +47,7 @@ fn obey<St: Store, In: Source, Out: Sink>(
         Command::Refute { net, vector } => refute(alloc, net, vector, store, out),
         Command::Audit { net } => audit(alloc, net, store, input, out),
         Command::AuditWith { net, cert } => audit_with(alloc, net, cert, store, input, out),
+        Command::Control { net } => control(alloc, net, store, input, out),
         Command::Demo(n) => demo(alloc, n, out),
         Command::Scale { net, d } => scale(alloc, net, d, store, out),
         Command::Unknown => Outcome::Words,
@@ -60,8 +62,9 @@ fn obey<St: Store, In: Source, Out: Sink>(
 /// greatest slack; `check NET CERT` writes the slack of a certificate that holds; `refute NET VECTOR`
 /// writes the load and the capacity of a vector that speaks against the network; `audit NET` writes the
 /// number of periods of the log on `input`, where it is a whole one; `auditwith NET CERT` takes the slack
-/// of a certificate; `demo N` writes the summary of a long run on a network of its own; `scale NET D`
-/// writes the greatest certificate over a denominator.
+/// of a certificate; `control NET` answers each line of counts on `input` with the stages of greatest
+/// pressure at these, and seeks no certificate; `demo N` writes the summary of a long run on a network of
+/// its own; `scale NET D` writes the greatest certificate over a denominator.
 ///
 /// Every status but 0 has its line on `err`, whose faults are ignored: 1 for words that are not listed,
 /// 2 for a fault of the store, 3 for the first rule that the network file breaks and for another file
@@ -69,7 +72,7 @@ fn obey<St: Store, In: Source, Out: Sink>(
 /// that is critical, so that its rates are carried and no certificate holds, or overloaded, with the
 /// vector that shows it, for the first rule that a certificate breaks, for a vector that shows nothing,
 /// and where no certificate has the denominator, 5 for a calculation that exceeds 128 bits or a bound
-/// without room, 6 for the limit of turns at a junction, 7 for the first line of the stream that is too
+/// without room, 6 for the limit of turns at a junction, 7 for the first line of the input that is too
 /// long or not in the grammar, 8 for the first period of the stream in which some link does not keep to
 /// its bucket, 9 for more than 2^48 lines, 10 for a fault of the input, 11 for one of the output, 12 where
 /// memory ran out, which comes before the first byte is put, 13 for the first line that differs from a
