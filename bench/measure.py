@@ -6,6 +6,7 @@ A time is the processor time, user and system, of a whole run: the least of seve
 import itertools
 import os
 import pathlib
+import random
 import resource
 import shutil
 import subprocess
@@ -114,6 +115,41 @@ def commands(program, times, is_quick):
         print(f"| {name} | {why or f'{1000 * least(times, (words, *given))[0]:.1f}'} |", flush=True)
 
 
+def counted(network, lines):
+    """A file of lines with a count for each movement of a network, drawn with a fixed seed."""
+    file = OUT / f"{network.replace(' ', '-')}.{lines}.counts"
+    if not file.exists():
+        movements, drawn = made(network).read_text().count("from ="), random.Random(7)
+        file.write_text("".join(",".join(str(drawn.randrange(40)) for _ in range(movements)) + "\n" for _ in range(lines)))
+    return file
+
+
+def piped(words, lines):
+    """The seconds in which a controller answers these lines over a pipe, where each waits for the answer before it."""
+    with subprocess.Popen(words, stdin=subprocess.PIPE, stdout=subprocess.PIPE) as controller:
+        controller.stdout.readline()
+        start = time.perf_counter()
+        for line in lines:
+            controller.stdin.write(line)
+            controller.stdin.flush()
+            controller.stdout.readline()
+        spent = time.perf_counter() - start
+        controller.stdin.close()
+        controller.stdout.read()
+    return spent
+
+
+def controls(program, times, is_quick):
+    print("\n| control | lines | from a file, µs a line | over a pipe, µs a line |\n|---|---:|---:|---:|")
+    for network, *counts in [("corridor 3", 50_000, 5_000), ("largest 0", 5_000, 500)]:
+        count = counts[is_quick]
+        words, file = [program, "control", made(network)], counted(network, count)
+        start, spent = least(times, (words,), (words, file))
+        lines = file.read_bytes().splitlines(keepends=True)
+        answered = min(piped(words, lines) for _ in range(3))
+        print(f"| {network} | {count} | {(spent - start) / count * 1e6:.2f} | {answered / count * 1e6:.2f} |", flush=True)
+
+
 if __name__ == "__main__":
     program, *words = sys.argv[1:]
     if words not in ([], ["--quick"]):
@@ -123,3 +159,4 @@ if __name__ == "__main__":
     print(f"{os.cpu_count()} processors, {model}; load {os.getloadavg()[0]:.1f}; {time.strftime('%Y-%m-%d')}; least of {times}\n")
     runs(program, times, bool(words))
     commands(program, times, bool(words))
+    controls(program, times, bool(words))
