@@ -2,6 +2,7 @@
 
 use crate::certificates::{checked, read_certificate, read_vector, weighed};
 use crate::delays::delayed;
+use crate::digits::written;
 use crate::files::{Files, Stop, lines, word};
 use crate::networks::{network, shown};
 use crate::numbers::{bounds_under, drift_numbers, flow_pair, verdict, worths};
@@ -13,6 +14,10 @@ use std::alloc::Global;
 
 fn number(word: &str) -> Result<u64, Stop> {
     word.parse::<u64>().ok().ok_or(Stop::Unwritten)
+}
+
+fn integer(word: &str) -> Result<i128, Stop> {
+    word.parse::<i128>().ok().ok_or(Stop::Unwritten)
 }
 
 fn size(word: &str) -> Result<usize, Stop> {
@@ -95,6 +100,7 @@ pub fn asked(files: &Files, command: &str, case: &str) -> Result<String, Stop> {
     let alloc = files.alloc();
     let (name, case) = first(case);
     match command {
+        "digits" => written(alloc, integer(name)?, number(case)?),
         "answer" => line(alloc, Some(answer(alloc, files.bytes(name))?.as_str())),
         "rows" | "pairs" | "front" | "line" | "same" | "drawn" | "demonstration" => {
             of_files(files, command, name, case)

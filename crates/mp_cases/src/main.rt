@@ -8,6 +8,7 @@ mod asking;
 mod calls;
 mod certificates;
 mod delays;
+mod digits;
 mod files;
 mod networks;
 mod numbers;
