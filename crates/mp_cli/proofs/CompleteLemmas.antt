@@ -25,17 +25,19 @@ use Rattle.mp_trial.specs.Search.{scaled, Found}
 use Rattle.mp_cli.specs.declared.outcome.FileRole.TheVariants as file
 use Rattle.mp_cli.specs.declared.outcome.TextKind.{TextKind}
 use Rattle.mp_cli.specs.declared.outcome.Outcome.{Outcome}
-use Rattle.mp_cli.specs.declared.outcome.Outcome.TheVariants.{Done, Run as Ran, Store, Network as BadNetwork, LongText, Text, Critical, Overloaded, Certificate, ZeroVector, WeakVector, NoCertificate, Overflow, PivotLimit, SweepLimit, Differs, Read, Write, NoMemory}
+use Rattle.mp_cli.specs.declared.outcome.Outcome.TheVariants.{Done, Run as Ran, Store, Network as BadNetwork, LongText, Text, Admitted, Critical, Overloaded, Certificate, ZeroVector, WeakVector, NoCertificate, Overflow, GrowthOverflow, PivotLimit, SweepLimit, Uneven, Differs, Read, Write, NoMemory}
 use Rattle.mp_cli.specs.Auditing.{audit_line, Compares}
 use Rattle.mp_cli.specs.Checking.{RefusesCert}
-use Rattle.mp_cli.specs.Commands.{Command, Run, RunWith, Show, Certify, Check, Refute, Audit, AuditWith, Control, Demo, Scale, Unknown}
-use Rattle.mp_cli.specs.Complete.{IsGoodFile, IsGoodText, IsGoodStream, IsExcessiveStream, IsGoodLog, IsRunnableCert, IsGoodVector, IsAdmittable, CanRun, IsGood, IsExcessive}
+use Rattle.mp_cli.specs.Commands.{Command, Run, RunWith, Show, Certify, Check, Refute, Audit, AuditWith, Control, Demo, Scale, Overload, Unknown}
+use Rattle.mp_cli.specs.Complete.{IsGoodFile, IsGoodText, IsGoodStream, IsExcessiveStream, IsGoodLog, IsRunnableCert, IsGoodVector, IsAdmittable, IsGrowing, CanRun, IsGood, IsExcessive}
 use Rattle.mp_cli.specs.Ends.{Means}
 use Rattle.mp_cli.specs.Opening.{Reads, RefusesNetwork, RefusesText}
 use Rattle.mp_cli.specs.Ports.{Files, Ports, IsUntouched, Writes}
 use Rattle.mp_cli.specs.Refuting.{IsZero, ShowsNothing}
 use Rattle.mp_cli.specs.Running.{Streams}
 use Rattle.mp_cli.specs.Scaling.{IsUnscaled}
+use Rattle.mp_cli.specs.Overloading.{IsNotOverloaded, OfOverloaded, IsUntold}
+use Rattle.mp_cli.proofs.GrowthLemmas.{told_weighed}
 use Rattle.mp_cli.specs.Sessions.{IsUnopened, IsUnaccepted}
 use Rattle.mp_cli.specs.Statuses.{status_of}
 use Rattle.mp_press.specs.Queues.{naturals}
@@ -135,6 +137,27 @@ scaled_memory (PivotLimit j) net d cert good refused = absurd (let no = sym good
 scaled_memory (SweepLimit e) net d cert good refused = absurd (let no = sym good ∙ refused in cc)
 scaled_memory NoMemory net d cert good refused = refl
 scaled_memory outcome net d cert good refused = absurd refused
+
+overloaded_memory : (outcome : Outcome) (net : Network) → IsGrowing net → IsNotOverloaded outcome net → status_of outcome ≡ 12
+overloaded_memory Admitted net good refused = absurd (let no = sym good.reached ∙ refused.reached in cc)
+overloaded_memory (Critical against) net good refused = absurd (let no = sym good.reached ∙ refused.reached in cc)
+overloaded_memory (Overflow place) net good refused = absurd (let no = sym good.reached ∙ refused in cc)
+overloaded_memory (PivotLimit j) net good refused = absurd (let no = sym good.reached ∙ refused in cc)
+overloaded_memory NoMemory net good refused = refl
+overloaded_memory outcome net good refused = absurd refused
+
+-- the vector of an overloaded network is the one of the stated calculation
+of_overloaded : (net : Network) (P : List ℤ → Type 0) (good : IsGrowing net) → OfOverloaded net P → P good.vector
+of_overloaded net P good found =
+    let same : found.vector ≡ good.vector = (let e = sym found.shown.reached ∙ good.reached in cc) in
+    subst P same found.is
+
+told_memory : (outcome : Outcome) (net : Network) (good : IsGrowing net) → IsUntold outcome net good.vector → status_of outcome ≡ 12
+told_memory (Uneven link) net good refused = absurd (let no = sym refused ∙ good.even in cc)
+told_memory (Overflow at.Vector) net good refused = absurd (told_weighed net _ good.vector _ good.told.0 good.told.1 refused.1)
+told_memory GrowthOverflow net good refused = absurd (let no = sym refused.2 ∙ good.told.1 in cc)
+told_memory NoMemory net good refused = refl
+told_memory outcome net good refused = absurd refused
 
 -- what was written was written whole, where no write failed
 written_done : (outcome : Outcome) (ports : Ports) (text : List ℕ) → IsQuiet outcome → Writes outcome ports text → EndsIn 0 outcome
@@ -278,6 +301,11 @@ completes (Scale net d) outcome ports quiet good means =
     goes 0 outcome means (network_memory outcome ports.files net _ quiet good) (λ reads.
     let on = of_good file_meaning ports.files net _ _ good reads in
     goes 0 outcome on.1 (scaled_memory outcome good.value d good.is.0 good.is.1) (λ found. written_done outcome ports _ quiet found.is.answers.1))
+completes (Overload net) outcome ports quiet good means =
+    goes 0 outcome means (network_memory outcome ports.files net _ quiet good) (λ reads.
+    let on = of_good file_meaning ports.files net _ _ good reads in
+    goes 0 outcome on.1 (overloaded_memory outcome good.value good.is) (λ found.
+    goes 0 outcome (of_overloaded good.value _ good.is found) (told_memory outcome good.value good.is) (λ writes. written_done outcome ports _ quiet writes.1.answers.1)))
 completes Unknown outcome ports quiet good means = absurd good
 
 pub exceeds : (command : Command) (outcome : Outcome) (ports : Ports) → IsQuiet outcome → IsExcessive command ports.files ports.input_before → Means command outcome ports → EndsIn 8 outcome

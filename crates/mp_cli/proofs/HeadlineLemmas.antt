@@ -16,7 +16,7 @@ use Rattle.mp_netfile.specs.Meaning.{file_meaning}
 use Rattle.mp_run.specs.declared.run.RunEnd.TheVariants as how
 use Rattle.mp_cli.specs.declared.outcome.Outcome.{Outcome}
 use Rattle.mp_cli.specs.declared.outcome.Outcome.TheVariants.{Done, Run as Ran}
-use Rattle.mp_cli.specs.Commands.{Command, Run, RunWith, Show, Certify, Check, Refute, Audit, AuditWith, Control, Demo, Scale, Unknown}
+use Rattle.mp_cli.specs.Commands.{Command, Run, RunWith, Show, Certify, Check, Refute, Audit, AuditWith, Control, Demo, Scale, Overload, Unknown}
 use Rattle.mp_cli.specs.Auditing.{Compares}
 use Rattle.mp_cli.specs.Demonstrating.{IsShownRun}
 use Rattle.mp_cli.specs.Ends.{Means}
@@ -81,6 +81,7 @@ does_done (AuditWith net cert) ports means =
 does_done (Control net) ports means = absurd (went means (λ no. no)).is.1
 does_done (Demo n) ports means = greatest_of Done (demo_network n) ports _ _ (λ cert no. no) (λ num den bounds is. is) (went means (λ no. no))
 does_done (Scale net d) ports means = of_reads file_meaning ports.files net _ _ (went means (λ no. no)) (λ n on. let found = went on.1 (λ no. no) in (found.cert, found.is))
+does_done (Overload net) ports means = of_reads file_meaning ports.files net _ _ (went means (λ no. no)) (λ n on. let found = went on.1 (λ no. no) in (found.vector, (went found.is (λ no. no)).1))
 does_done Unknown ports means = absurd (let no = means.0 in cc)
 
 does_run : (command : Command) (ports : Ports) → Means command (Ran how.Done) ports → Does command ports
@@ -106,6 +107,7 @@ does_run (Demo n) ports means =
     let none : HoldsWithGreatest (demo_network n) (λ num den bounds. ⊥) = greatest_of (Ran how.Done) (demo_network n) ports (IsShownRun (Ran how.Done) (demo_network n) n ports) _ (λ cert no. no) (λ num den bounds is. is.answers.1) (went means (λ no. no)) in
     absurd none.holds.is
 does_run (Scale net d) ports means = absurd (went ((went means (λ no. no)).is.1) (λ no. no)).is.answers.1
+does_run (Overload net) ports means = absurd (went (went ((went means (λ no. no)).is.1) (λ no. no)).is (λ no. no)).1.answers.1
 does_run Unknown ports means = absurd (let no = means.0 in cc)
 
 zero_outcome : (outcome : Outcome) → status_of outcome ≡ 0 → (outcome ≡ Done) ⊎ (outcome ≡ Ran how.Done)
@@ -160,4 +162,5 @@ promised (AuditWith net cert) outcome ports done means = promise_on outcome net 
 promised (Control net) outcome ports done means = promise_on outcome net ports _ (not_refused outcome ports.files net done) means
 promised (Demo n) outcome ports done means = promise_of (demo_network n) (demo_acceptable n).network
 promised (Scale net d) outcome ports done means = promise_on outcome net ports _ (not_refused outcome ports.files net done) means
+promised (Overload net) outcome ports done means = promise_on outcome net ports _ (not_refused outcome ports.files net done) means
 promised Unknown outcome ports done means = absurd (let wrong = means.0 in omega (arith, ap status_of wrong))

@@ -20,6 +20,7 @@ pub data Command : Type 0 where
   Control : List ℕ → Command
   Demo : ℕ → Command
   Scale : List ℕ → ℕ → Command
+  Overload : List ℕ → Command
   Unknown : Command
 
 -- This is the command of the code, with the names in place of what points to them.
@@ -35,6 +36,7 @@ asked (said.AuditWith net cert) = AuditWith net.now cert.now
 asked (said.Control net) = Control net.now
 asked (said.Demo n) = Demo n
 asked (said.Scale net d) = Scale net.now d
+asked (said.Overload net) = Overload net.now
 asked said.Unknown = Unknown
 
 -- The word is the one that is listed.
@@ -68,6 +70,7 @@ command_on_one word net =
     else if is_word word (codes "certify") then Certify net
     else if is_word word (codes "audit") then Audit net
     else if is_word word (codes "control") then Control net
+    else if is_word word (codes "overload") then Overload net
     else if is_word word (codes "demo") then demo_of net
     else Unknown
 
@@ -108,4 +111,5 @@ file_of (AuditWith net cert) Net = net
 file_of (AuditWith net cert) Other = cert
 file_of (Control net) Net = net
 file_of (Scale net d) Net = net
+file_of (Overload net) Net = net
 file_of command role = []

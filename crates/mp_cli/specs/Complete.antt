@@ -1,5 +1,5 @@
 -- When a command must do what was asked.
-use Rattle.std.specs.Prelude.{◌≡◌, ◌≤◌, ◌⊎◌, ℕ, ℤ, List, [], length, Option, Result, Some, Ok}
+use Rattle.std.specs.Prelude.{◌≡◌, ◌≤◌, ◌⊎◌, ℕ, ℤ, List, [], length, Option, Result, None, Some, Ok}
 use Rattle.mp_edge.specs.Outside.{file_named}
 use Rattle.mp_model.specs.Arrivals.{IsPermitted}
 use Rattle.mp_model.specs.Bounds.{AreBounds}
@@ -22,7 +22,10 @@ use Rattle.mp_run.specs.Running.{StartsWith, IsAboveAt}
 use Rattle.mp_trial.specs.Search.{scaled, Found}
 use Rattle.mp_verdict.specs.Stated.{Reached}
 use Rattle.mp_verdict.specs.Verdict.{verdict, Admitted}
-use Rattle.mp_cli.specs.Commands.{Command, Run, RunWith, Show, Certify, Check, Refute, Audit, AuditWith, Control, Demo, Scale, Unknown}
+use Rattle.mp_verdict.specs.Verdict as judged
+use Rattle.mp_overload.specs.Evens.{uneven_link}
+use Rattle.mp_cli.specs.Commands.{Command, Run, RunWith, Show, Certify, Check, Refute, Audit, AuditWith, Control, Demo, Scale, Overload, Unknown}
+use Rattle.mp_cli.specs.Overloading.{IsTold}
 use Rattle.mp_cli.specs.Ports.{Files}
 use Rattle.mp_cli.specs.Refuting.{IsFormed}
 use Rattle.mp_cli.specs.Sessions.{HasBounds}
@@ -93,6 +96,13 @@ pub record IsAdmittable (net : Network) : Type 0 where
   pub slack : Fraction
   pub reached : verdict net (weighed net) ≡ Reached (Admitted cert vector slack)
 
+-- The stated calculation of the verdict finds the network overloaded, no fed link is uneven, and nothing that is told of its growth exceeds 128 bits.
+pub record IsGrowing (net : Network) : Type 0 where
+  pub vector : List ℤ
+  pub reached : verdict net (weighed net) ≡ Reached (judged.Overloaded vector)
+  pub even : uneven_link net ≡ None
+  pub told : IsTold net vector
+
 -- The network is admitted, and a stream can be run under its certificate.
 pub record IsRunnable (net : Network) : Type 0 where
   pub admitted : IsAdmittable net
@@ -117,6 +127,7 @@ IsGood (AuditWith net cert) files left = IsGoodFile file_meaning files net (λ n
 IsGood (Control net) files left = IsGoodFile file_meaning files net (λ n. IsGoodInput n left)
 IsGood (Demo n) files left = IsRunnable (demo_network n)
 IsGood (Scale net d) files left = IsGoodFile file_meaning files net (λ n. (cert : Cert) × (scaled n d ≡ Found cert))
+IsGood (Overload net) files left = IsGoodFile file_meaning files net IsGrowing
 IsGood Unknown files left = ⊥
 
 -- The files of a command are good, and the stream is above a bucket.

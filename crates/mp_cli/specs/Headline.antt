@@ -1,5 +1,5 @@
 -- The headline: what is so where the status is 0, in the words of the subject and without any calculation.
-use Rattle.std.specs.Prelude.{◌≡◌, ◌+◌, ◌*ℤ◌, ◌≤ℤ◌, ℕ, pos, List, [], ◌∷◌}
+use Rattle.std.specs.Prelude.{◌≡◌, ◌+◌, ◌*ℤ◌, ◌≤ℤ◌, ℕ, ℤ, pos, List, [], ◌∷◌}
 use Rattle.mp_model.specs.Arrivals.{IsPermitted, arrivals_of}
 use Rattle.mp_model.specs.Certificate.{Cert, Certifies}
 use Rattle.mp_model.specs.Log.{text_of, header_lines, line_after, period_line}
@@ -14,7 +14,7 @@ use Rattle.mp_netfile.specs.Meaning.{file_meaning}
 use Rattle.mp_control.specs.Controlling as control
 use Rattle.mp_run.specs.Running.{Finished}
 use Rattle.mp_cli.specs.declared.outcome.Outcome.TheVariants.{Done}
-use Rattle.mp_cli.specs.Commands.{Command, Run, RunWith, Show, Certify, Check, Refute, Audit, AuditWith, Control, Demo, Scale, Unknown}
+use Rattle.mp_cli.specs.Commands.{Command, Run, RunWith, Show, Certify, Check, Refute, Audit, AuditWith, Control, Demo, Scale, Overload, Unknown}
 use Rattle.mp_cli.specs.Opening.{Reads}
 use Rattle.mp_cli.specs.Ports.{Ports}
 use Rattle.mp_cli.specs.Sessions.{HoldsWith, HoldsWithGreatest}
@@ -26,6 +26,7 @@ use Rattle.mp_cli.specs.Refuting.{SpeaksAgainst}
 use Rattle.mp_cli.specs.Auditing.{IsShownWhole}
 use Rattle.mp_cli.specs.Demonstrating.{IsShownRun}
 use Rattle.mp_cli.specs.Scaling.{WritesScaled}
+use Rattle.mp_cli.specs.Overloading.{WritesGrowth}
 
 -- The stream was read to its end, and the log of its run was put behind the header of the slack num/den and the bounds.
 abbrev pub WritesLog : Network → Ports → ℕ → ℕ → List ℕ → Type 0
@@ -48,6 +49,7 @@ Does (AuditWith net cert) ports = Reads file_meaning ports.files net (λ n. Read
 Does (Control net) ports = Reads file_meaning ports.files net (λ n. WritesAnswers n ports)
 Does (Demo n) ports = HoldsWithGreatest (demo_network n) (IsShownRun Done (demo_network n) n ports)
 Does (Scale net d) ports = Reads file_meaning ports.files net (λ n. (cert : Cert) × WritesScaled Done n d ports cert)
+Does (Overload net) ports = Reads file_meaning ports.files net (λ n. (vector : List ℤ) × WritesGrowth Done n ports vector)
 Does Unknown ports = ⊥
 
 -- A period leads from one state to the next: each junction shows the stage of greatest pressure at the queues before the period, the lowest number on ties; so its line says; and after it what entered is what departed and what is queued.
@@ -82,4 +84,5 @@ OfNetwork (AuditWith net cert) ports P = Reads file_meaning ports.files net P
 OfNetwork (Control net) ports P = Reads file_meaning ports.files net P
 OfNetwork (Demo n) ports P = P (demo_network n)
 OfNetwork (Scale net d) ports P = Reads file_meaning ports.files net P
+OfNetwork (Overload net) ports P = Reads file_meaning ports.files net P
 OfNetwork Unknown ports P = ⊥

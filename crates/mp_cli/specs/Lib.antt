@@ -17,6 +17,7 @@ pub mod AuditingWith
 pub mod Controlling
 pub mod Demonstrating
 pub mod Scaling
+pub mod Overloading
 pub mod Ends
 pub mod Headline
 pub mod Complete

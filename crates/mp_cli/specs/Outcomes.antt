@@ -10,10 +10,14 @@ use Rattle.mp_drift.specs.declared.session.OpenFault.{OpenFault}
 use Rattle.mp_drift.specs.declared.session.OpenFault.TheVariants as opening
 use Rattle.mp_scaled.specs.declared.fault.ScaleFault.{ScaleFault}
 use Rattle.mp_scaled.specs.declared.fault.ScaleFault.TheVariants as scaling
+use Rattle.mp_growth.specs.declared.fault.GrowthFault.{GrowthFault}
+use Rattle.mp_growth.specs.declared.fault.GrowthFault.TheVariants as growing
+use Rattle.mp_growth.specs.declared.fault.TrailFault.{TrailFault}
+use Rattle.mp_growth.specs.declared.fault.TrailFault.TheVariants as trailing
 use Rattle.mp_cli.specs.declared.outcome.CertRule.{CertRule}
 use Rattle.mp_cli.specs.declared.outcome.CertRule.TheVariants as rule
 use Rattle.mp_cli.specs.declared.outcome.Outcome.{Outcome}
-use Rattle.mp_cli.specs.declared.outcome.Outcome.TheVariants.{Certificate, Overflow, PivotLimit, SweepLimit, NoMemory}
+use Rattle.mp_cli.specs.declared.outcome.Outcome.TheVariants.{Certificate, Overflow, GrowthOverflow, PivotLimit, SweepLimit, Uneven, NoMemory}
 
 -- This is the rule that a fault names; an overflow names none.
 abbrev pub broken_rule : CertFault → Option CertRule
@@ -54,6 +58,16 @@ outcome_of_scaling (scaling.Sweeps e) = SweepLimit e
 outcome_of_scaling (scaling.Overflow j) = Overflow (at.Game j)
 outcome_of_scaling (scaling.PivotLimit j) = PivotLimit j
 outcome_of_scaling scaling.NoMemory = NoMemory
+
+-- This is the outcome of a trail that is not made.
+abbrev pub outcome_of_trail : TrailFault → Outcome
+outcome_of_trail (trailing.Uneven link) = Uneven link
+outcome_of_trail trailing.NoMemory = NoMemory
+
+-- This is the outcome of a growth that is not formed.
+abbrev pub outcome_of_growth : GrowthFault → Outcome
+outcome_of_growth growing.Vector = Overflow at.Vector
+outcome_of_growth growing.Growth = GrowthOverflow
 
 -- This is the word for a vector whose load is at least what is served.
 abbrev pub word_of : Weighed → List ℕ

@@ -3,7 +3,7 @@ use Rattle.std.specs.Prelude.{◌≡◌, ℕ}
 use Rattle.mp_run.specs.declared.run.RunEnd.{RunEnd}
 use Rattle.mp_run.specs.declared.run.RunEnd.TheVariants as end
 use Rattle.mp_cli.specs.declared.outcome.Outcome.{Outcome}
-use Rattle.mp_cli.specs.declared.outcome.Outcome.TheVariants.{Done, Run, Words, Store, Network, LongText, Text, Critical, Overloaded, Certificate, ZeroVector, WeakVector, NoCertificate, Overflow, PivotLimit, SweepLimit, Differs, Read, Write, NoMemory}
+use Rattle.mp_cli.specs.declared.outcome.Outcome.TheVariants.{Done, Run, Words, Store, Network, LongText, Text, Admitted, Critical, Overloaded, Certificate, ZeroVector, WeakVector, NoCertificate, Overflow, GrowthOverflow, PivotLimit, SweepLimit, Uneven, Differs, Read, Write, NoMemory}
 
 -- This is the status of a run's end.
 abbrev pub run_status : RunEnd → ℕ
@@ -24,6 +24,7 @@ status_of (Store file) = 2
 status_of (Network rule spot) = 3
 status_of (LongText kind) = 3
 status_of (Text kind n) = 3
+status_of Admitted = 4
 status_of (Critical against) = 4
 status_of (Overloaded against) = 4
 status_of (Certificate rule) = 4
@@ -31,12 +32,14 @@ status_of ZeroVector = 4
 status_of WeakVector = 4
 status_of NoCertificate = 4
 status_of (Overflow place) = 5
+status_of GrowthOverflow = 5
 status_of (PivotLimit j) = 6
 status_of Read = 10
 status_of Write = 11
 status_of NoMemory = 12
 status_of (Differs n) = 13
 status_of (SweepLimit e) = 15
+status_of (Uneven link) = 16
 
 -- An outcome is no fault of the input or the output.
 pub record HasNoPortFault (outcome : Outcome) : Type 0 where

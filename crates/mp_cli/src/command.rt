@@ -30,6 +30,8 @@ pub enum Command<'a> {
     Demo(u64),
     /// `scale NET D`: the greatest certificate with the denominator D, of at most 9 digits.
     Scale { net: &'a str, d: u32 },
+    /// `overload NET`: how fast an overloaded network grows, whatever its junctions show.
+    Overload { net: &'a str },
     /// Words that are not listed.
     Unknown,
 }
@@ -79,6 +81,8 @@ fn command_on_one<'a>(word: &str, net: &'a str) -> Command<'a>
         Command::Audit { net }
     } else if is_word(word, "control") {
         Command::Control { net }
+    } else if is_word(word, "overload") {
+        Command::Overload { net }
     } else if is_word(word, "demo") {
         demo_of(net)
     } else {
@@ -133,6 +137,7 @@ pub fn file_of<'a>(command: Command<'a>, role: FileRole) -> &'a str
         (FileRole::Net, Command::RunWith { net, .. } | Command::Check { net, .. }) => net,
         (FileRole::Net, Command::AuditWith { net, .. }) => net,
         (FileRole::Net, Command::Refute { net, .. } | Command::Scale { net, .. }) => net,
+        (FileRole::Net, Command::Overload { net }) => net,
         _ => "",
     }
 }

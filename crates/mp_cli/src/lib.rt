@@ -11,6 +11,7 @@ mod demonstrating;
 mod message;
 mod opening;
 mod outcome;
+mod overloading;
 mod program;
 mod refuting;
 mod running;

@@ -181,6 +181,7 @@ fn push_message(line: &mut LineSink, outcome: &Outcome)
             push_kind(line, *kind);
             push_line(line, *number);
         }
+        Outcome::Admitted => push_text(line, b"network admitted"),
         Outcome::Critical(_) => push_text(line, b"network critical"),
         Outcome::Overloaded(_) => push_text(line, b"network overloaded"),
         Outcome::Certificate(rule) => {
@@ -194,8 +195,10 @@ fn push_message(line: &mut LineSink, outcome: &Outcome)
             push_text(line, b"overflow ");
             push_place(line, *place);
         }
+        Outcome::GrowthOverflow => push_text(line, b"overflow growth"),
         Outcome::PivotLimit(j) => push_numbered(line, b"pivots ", *j),
         Outcome::SweepLimit(e) => push_numbered(line, b"sweeps ", *e),
+        Outcome::Uneven(l) => push_numbered(line, b"uneven link ", *l),
         Outcome::Run(end) => push_end(line, *end),
         Outcome::Differs { line: number } => {
             push_text(line, b"log differs ");

@@ -5,7 +5,7 @@ ghost use Rattle.mp_cli.specs.Statuses.{status_of, run_status};
 
 use mp_cert::{Against, CertFault};
 use mp_flow::Place;
-use mp_net::{JunctionNo, MovementNo, NetRule, Spot, StageNo};
+use mp_net::{JunctionNo, LinkNo, MovementNo, NetRule, Spot, StageNo};
 use mp_run::RunEnd;
 
 /// One of the files that the words name.
@@ -81,6 +81,8 @@ pub enum Outcome {
     LongText(TextKind),
     /// The line of the other file is the first that is not in its grammar.
     Text { kind: TextKind, line: u64 },
+    /// The network is admitted, where only an overloaded one serves.
+    Admitted,
     /// The network is critical, as the vector shows.
     Critical(Against),
     /// The network is overloaded, as the vector shows.
@@ -95,10 +97,15 @@ pub enum Outcome {
     NoCertificate,
     /// A calculation exceeds 128 bits at this place, or a bound has no room.
     Overflow(Place),
+    /// A calculation of the growth of an overloaded network exceeds 128 bits.
+    GrowthOverflow,
     /// The turns of the game, or of a junction's program, end at this junction first.
     PivotLimit(JunctionNo),
     /// The trial of this excess is not at rest after its last sweep.
     SweepLimit(u64),
+    /// This link is fed with a burst of 0 and a rate that is not a multiple of the rate length, and no link of lower
+    /// number is.
+    Uneven(LinkNo),
     /// The line of the input is the first that differs from a log.
     Differs { line: u64 },
     /// The input met a fault while a log was read.
@@ -133,15 +140,16 @@ pub fn status_of(outcome: &Outcome) -> u8
         Outcome::Words => 1,
         Outcome::Store(_) => 2,
         Outcome::Network { .. } | Outcome::LongText(_) | Outcome::Text { .. } => 3,
-        Outcome::Critical(_) | Outcome::Overloaded(_) => 4,
+        Outcome::Admitted | Outcome::Critical(_) | Outcome::Overloaded(_) => 4,
         Outcome::Certificate(_) | Outcome::NoCertificate => 4,
         Outcome::ZeroVector | Outcome::WeakVector => 4,
-        Outcome::Overflow(_) => 5,
+        Outcome::Overflow(_) | Outcome::GrowthOverflow => 5,
         Outcome::PivotLimit(_) => 6,
         Outcome::Read => 10,
         Outcome::Write => 11,
         Outcome::NoMemory => 12,
         Outcome::Differs { .. } => 13,
         Outcome::SweepLimit(_) => 15,
+        Outcome::Uneven(_) => 16,
     }
 }

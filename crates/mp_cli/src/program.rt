@@ -16,6 +16,7 @@ use crate::controlling::control;
 use crate::demonstrating::demo;
 use crate::message::put_message;
 use crate::outcome::{Outcome, status_of};
+use crate::overloading::overload;
 use crate::refuting::refute;
 use crate::running::run;
 use crate::running_with::run_with;
@@ -50,6 +51,7 @@ fn obey<St: Store, In: Source, Out: Sink>(
         Command::Control { net } => control(alloc, net, store, input, out),
         Command::Demo(n) => demo(alloc, n, out),
         Command::Scale { net, d } => scale(alloc, net, d, store, out),
+        Command::Overload { net } => overload(alloc, net, store, out),
         Command::Unknown => Outcome::Words,
     }
 }
@@ -64,19 +66,21 @@ fn obey<St: Store, In: Source, Out: Sink>(
 /// number of periods of the log on `input`, where it is a whole one; `auditwith NET CERT` takes the slack
 /// of a certificate; `control NET` answers each line of counts on `input` with the stages of greatest
 /// pressure at these, and seeks no certificate; `demo N` writes the summary of a long run on a network of
-/// its own; `scale NET D` writes the greatest certificate over a denominator.
+/// its own; `scale NET D` writes the greatest certificate over a denominator; `overload NET` writes how
+/// fast the queues of an overloaded network grow, whatever its junctions show.
 ///
 /// Every status but 0 has its line on `err`, whose faults are ignored: 1 for words that are not listed,
 /// 2 for a fault of the store, 3 for the first rule that the network file breaks and for another file
 /// that is longer than 1,048,576 bytes, or for its first line that is not in its grammar, 4 for a network
 /// that is critical, so that its rates are carried and no certificate holds, or overloaded, with the
 /// vector that shows it, for the first rule that a certificate breaks, for a vector that shows nothing,
-/// and where no certificate has the denominator, 5 for a calculation that exceeds 128 bits or a bound
+/// where no certificate has the denominator, and for a network that is admitted where only an overloaded
+/// one serves, 5 for a calculation that exceeds 128 bits or a bound
 /// without room, 6 for the limit of turns at a junction, 7 for the first line of the input that is too
 /// long or not in the grammar, 8 for the first period of the stream in which some link does not keep to
 /// its bucket, 9 for more than 2^48 lines, 10 for a fault of the input, 11 for one of the output, 12 where
 /// memory ran out, which comes before the first byte is put, 13 for the first line that differs from a
-/// log, and 15 for the limit of sweeps.
+/// log, 15 for the limit of sweeps, and 16 for the least link on which even arrivals are not permitted.
 ///
 /// Refusals come in the order of the layers: the network file, the other file, the verdict, the check of
 /// the certificate, its bounds, and then the input and the output, which no refusal before touches. Each

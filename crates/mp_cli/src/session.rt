@@ -32,8 +32,8 @@ pub fn outcome_of_fault(fault: CertFault) -> Outcome
     }
 }
 
-// The outcome of a calculation that has no result.
-fn outcome_of_calculation(fault: CalcFault) -> Outcome
+/// The outcome of a calculation that has no result.
+pub fn outcome_of_calculation(fault: CalcFault) -> Outcome
     ensures { result ≡ outcome_of_calculation fault }
 {
     match fault {
