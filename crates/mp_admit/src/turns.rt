@@ -242,12 +242,7 @@ pub fn play(
     loop {
         match take_turn(alloc, net, flows, j, turns, &score.slack) {
             Ok(Turn::Carried) => return Ok(score),
-            Ok(
-                Turn::Lowered {
-                    left,
-                    score: next,
-                },
-            ) => {
+            Ok(Turn::Lowered { left, score: next }) => {
                 turns = left;
                 score = next;
             }

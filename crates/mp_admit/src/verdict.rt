@@ -71,12 +71,7 @@ fn judge(
 
 /// The verdict after the game: the vector is found, its two sums are formed for their overflow, and the slack decides.
 #[tactic(auto, using(crate::proofs::VerdictLemmas::judging))]
-fn decide(
-    alloc: Global,
-    net: &Net,
-    flows: &FlowPair,
-    score: &Score,
-) -> Result<Verdict, CalcFault>
+fn decide(alloc: Global, net: &Net, flows: &FlowPair, score: &Score) -> Result<Verdict, CalcFault>
     requires network { IsNetwork net.now }
     requires flows { AreFlows net.now (flows_of flows.now) }
     requires stands { StandsIn net.now score.now }
