@@ -1,5 +1,5 @@
 -- A run in which junctions decide by reports that may be some periods old.
-use Rattle.std.specs.Prelude.{◌≡◌, ◌≤◌, ℕ, ◌+◌, List, [], ◌∷◌, length, map, zip, get_or}
+use Rattle.std.specs.Prelude.{◌≡◌, ◌≤◌, ℕ, ◌+◌, ◌%◌, List, [], ◌∷◌, length, map, zip, get_or}
 use Rattle.std.specs.List.{AllByRecursion}
 use Rattle.mp_model.specs.Arrivals.{arrivals_of, count_in}
 use Rattle.mp_model.specs.Network.{Network, Junction, from_of, targets}
@@ -73,6 +73,15 @@ reported_run net periods = reported_run_from net (first_history net) periods
 -- These are the ages of reports of now, one per link that the junction feeds.
 abbrev pub ages_of_now : Network → Junction → List ℕ
 ages_of_now net j = map (λ l. 0) (targets net j)
+
+-- Where a junction hears a link anew only when the report that it has would be too old, each report is as old as the periods before this one, modulo one more than the delay.
+abbrev pub renewed_ages : Network → ℕ → List (List ℕ)
+renewed_ages net before = map (λ j. map (λ l. before % (net.delay + 1)) (targets net j)) net.junctions
+
+-- These are periods of these arrivals with reports of such ages, after so many periods.
+abbrev pub renewed_periods : Network → ℕ → List (List ℕ) → List Period
+renewed_periods net before [] = []
+renewed_periods net before (counts ∷ A) = record { counts = counts; ages = renewed_ages net before } ∷ renewed_periods net (before + 1) A
 
 -- This is a period of these arrivals in which each junction decides by reports of now.
 abbrev pub prompt_period : Network → List ℕ → Period
