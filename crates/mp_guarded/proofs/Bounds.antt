@@ -1,54 +1,21 @@
--- The burst of what passes under a guard, and the bound of each queue, by induction over the periods for all movements at once.
-use Rattle.std.proofs.Common.{◌≡◌, ℕ, zero, suc, ◌+◌, ◌*◌, ◌≤◌, ◌<◌, true, List, length, sum_by, arith, sym, ap, subst, ⊎_elim, mul-le-mul_left, le_refl, inl, inr, ◌⊎◌}
-use Rattle.std.proofs.Math.Nat.{le_of_mul-le-mul_left}
+-- Under a guard the lights serve its demand, whatever candidates are chosen by whatever counts.
+use Rattle.std.proofs.Common.{◌≡◌, ℕ, ◌+◌, ◌*◌, ◌≤◌, ◌<◌, true, List, length, arith, ⊎_elim}
 use Rattle.std.proofs.lemmas.Bool.{cases_lt}
 use Rattle.std.specs.List.{AllByRecursion}
-use Rattle.mp_laws.proofs.Lists.{at_in, each_in, filter_sub}
-use Rattle.mp_laws.proofs.Sums.{sum_by-le_at, sum_by-add, sum_by-mul}
-use Rattle.mp_model.specs.Guard.{Guard, Guards, GuardedServeRule, CarryBursts, HasSurplus, Holds, CarriesBurst, FlowRule, GuardedBalanceRule, GreensFit, crowd, guarded_rate, greens_at, red}
-use Rattle.mp_model.specs.GuardedRun.{Play, IsCandidate, account_of, stage_of, green_in, guarded_state}
-use Rattle.mp_model.specs.Network.{Network, goes_to, to_of, movement_numbers, junction_numbers, junction_at, junction_of_movement, from_of, flow_of, share_of, start_of, rate_before, burst_before, into_link, has, entry}
+use Rattle.mp_laws.proofs.Lists.{at_in, each_in}
+use Rattle.mp_model.specs.Guard.{Guard, Guards, GuardedServeRule, CarryBursts, Holds, FlowRule, GreensFit, demand_of, guarded_rate, greens_at, red}
+use Rattle.mp_model.specs.GuardedRun.{Play, IsCandidate, account_of, stage_of, green_in, guarded_state, lights_of}
+use Rattle.mp_model.specs.Lights.{IsWaiting, ServeDemand, ServesRate, greens_in}
+use Rattle.mp_model.specs.Network.{Network, movement_numbers, junction_numbers, junction_at, junction_of_movement, flow_of, has, entry}
 use Rattle.mp_model.specs.NetworkRules.{IsNetwork}
-use Rattle.mp_model.specs.Step.{queue, joined}
-use Rattle.mp_guarded.specs.Greens.{KeepsGreens, IsCounted, greens_in}
-use Rattle.mp_guarded.specs.Busy.{Busy, IsWaiting}
-use Rattle.mp_guarded.specs.Busy.Busy.{nobody, since, always}
-use Rattle.mp_guarded.specs.Bounds.{total, passes_at, IsGuarded}
-use Rattle.mp_guarded.proofs.Busy.{is_busy}
-use Rattle.mp_guarded.proofs.Flows.{queue_at, received_at, came_at, arrived_at, passes_few, links_in, received_row, queue_row, first_queue, none_came, served, arrivals_row}
+use Rattle.mp_model.specs.Step.{queue}
+use Rattle.mp_served.specs.Bounds.{total, passes_at}
+use Rattle.mp_served.proofs.Bounds.{passing_bounded, queues_bounded}
+use Rattle.mp_served.proofs.Flows.{queue_at}
+use Rattle.mp_guarded.specs.Greens.{KeepsGreens, IsCounted}
+use Rattle.mp_guarded.specs.Bounds.{IsGuarded}
 use Rattle.mp_guarded.proofs.Greens.{greens_hold}
 use Rattle.mp_guarded.proofs.Places.{junction_in}
-use Rattle.mp_guarded.proofs.Rows.{add_none}
-
--- ---- over plain numbers
--- what joins in n periods, from what the link gets in them
-joins : (W H d w burst rate arrived passed bursts rates e n h came came' : ℕ) → 1 ≤ H →
-    W * came' ≤ W * came + w * (arrived + passed) + e → H * arrived ≤ H * burst + rate * n → d * passed ≤ d * bursts + n * rates → w * (rate * d + H * rates) ≤ W * H * h →
-    W * d * came' ≤ W * d * came + d * (w * (burst + bursts) + e) + n * (W * h)
-joins W H d w burst rate arrived passed bursts rates e n h came came' some a b c balance =
-    let a' = mul-le-mul_left (H * d) a in
-    let b' = mul-le-mul_left (d * w) b in
-    let c' = mul-le-mul_left (H * w) c in
-    let e' = mul-le-mul_left n balance in
-    le_of_mul-le-mul_left {k = H} (omega arith) some
-
--- what passes, or is queued, where somebody has waited for n of the s periods that joined
-holds_since : (W d c h g red n s x came came' crowd : ℕ) →
-    x + c * g + came ≤ came' → W * d * came' ≤ W * d * came + crowd + s * (W * h) → n * h ≤ d * c * g + 2 * (h * red) → W * d * x + W * (n * h) ≤ crowd + s * (W * h) + W * (2 * (h * red))
-holds_since W d c h g red n s x came came' crowd a b e =
-    let a' = mul-le-mul_left (W * d) a in
-    let e' = mul-le-mul_left W e in
-    omega arith
-
-divided : (W a b : ℕ) → 1 ≤ W → W * a ≤ W * b → a ≤ b
-divided W a b some le = le_of_mul-le-mul_left {k = W} le some
-
--- what is passed, or queued, is at most a number that holds it
-settled : (W d h red n m x crowd b : ℕ) → 1 ≤ W → W * d * x + W * (n * h) ≤ crowd + (n + m) * (W * h) + W * (2 * (h * red)) → crowd + W * h * (2 * red) ≤ W * d * b → d * x ≤ d * b + m * h
-settled W d h red n m x crowd b some a carries = le_of_mul-le-mul_left {k = W} (omega arith) some
-
-held : (W d h red n x crowd b : ℕ) → 1 ≤ W → 1 ≤ d → W * d * x + W * (n * h) ≤ crowd + (1 + n) * (W * h) + W * (2 * (h * red)) → crowd + W * h * (1 + 2 * red) ≤ W * d * b → x ≤ b
-held W d h red n x crowd b some some' a carries = le_of_mul-le-mul_left {k = d} (le_of_mul-le-mul_left {k = W} (omega arith) some) some'
 
 module _ (net : Network) (ok : IsNetwork net) (guard : Guard) (guards : Guards net guard) (play : Play) (T : ℕ) (guarded : IsGuarded net guard play T) where
   keeps_greens : (j : ℕ) → has (junction_numbers net) j ≡ true → KeepsGreens guard (greens_at guard j) (junction_at net j) play.counts (stage_of play j) T
@@ -60,140 +27,37 @@ module _ (net : Network) (ok : IsNetwork net) (guard : Guard) (guards : Guards n
   }
 
   -- who waits is counted
-  counted : (k a n : ℕ) → has (movement_numbers net) k ≡ true → a + n ≤ T → IsWaiting (queue_at net ok guard play k) a n → IsCounted play.counts k a n
+  counted : (k a n : ℕ) → has (movement_numbers net) k ≡ true → a + n ≤ T → IsWaiting (queue_at net ok (lights_of net guard play) k) a n → IsCounted play.counts k a n
   counted k a n in' le waits u low high = ⊎_elim
       (λ (some : 0 < play.counts u k). some)
       (λ (none : play.counts u k ≤ 0).
-      let zero_queue : queue_at net ok guard play k u ≡ 0 = at_in (λ k. play.counts u k ≡ 0 → queue (guarded_state net guard play u) k ≡ 0) k (movement_numbers net) in' (guarded.keeps u (omega arith)).zeros (omega arith) in
+      let zero_queue : queue_at net ok (lights_of net guard play) k u ≡ 0 = at_in (λ k. play.counts u k ≡ 0 → queue (guarded_state net guard play u) k ≡ 0) k (movement_numbers net) in' (guarded.keeps u (omega arith)).zeros (omega arith) in
       let some = waits u low high in
       absurd (omega arith))
       (cases_lt 0 (play.counts u k))
 
-  greens_serve : (k : ℕ) → has (movement_numbers net) k ≡ true → (a n : ℕ) → a + n ≤ T → IsWaiting (queue_at net ok guard play k) a n →
-      n * guarded_rate guard k ≤ guard.denominator * flow_of net k * greens_in (λ t. green_in net guard play t k) a n + 2 * (guarded_rate guard k * red net guard k)
+  greens_serve : (k : ℕ) → has (movement_numbers net) k ≡ true → (a n : ℕ) → a + n ≤ T → IsWaiting (queue_at net ok (lights_of net guard play) k) a n →
+      n * guarded_rate guard k ≤ guard.denominator * flow_of net k * greens_in (λ t. green_in net guard play t k) a n + guarded_rate guard k * (2 * red net guard k)
   greens_serve k in' a n le waits =
       let j = junction_of_movement net k in
       let low : guarded_rate guard k ≤ flow_of net k * guard.denominator = at_in (FlowRule net guard) k (movement_numbers net) in' guards.flows in
       let serve = at_in (GuardedServeRule net guard) k (movement_numbers net) in' guards.serves in
-      greens_hold guard (greens_at guard j) (junction_at net j) play.counts (stage_of play j) T (keeps_greens j (junction_in net ok k in')) k a n le (counted k a n in' le waits)
-      (guarded_rate guard k) (guard.denominator * flow_of net k) (omega arith) serve.serves
+      let held = greens_hold guard (greens_at guard j) (junction_at net j) play.counts (stage_of play j) T (keeps_greens j (junction_in net ok k in')) k a n le (counted k a n in' le waits)
+      (guarded_rate guard k) (guard.denominator * flow_of net k) (omega arith) serve.serves in
+      omega (arith, held)
 
-  module _ (surplus : ℕ → ℕ) (b : List ℕ) (carry : CarryBursts net guard surplus b) where
-    -- until period t no movement passes more than its burst and its rate
-    Passes : ℕ → Type 0
-    Passes t = (k : ℕ) → has (movement_numbers net) k ≡ true → (a n : ℕ) → a + n ≤ t → guard.denominator * total (passes_at net guard play k) a n ≤ guard.denominator * entry b k + n * guarded_rate guard k
+  serve_demand : ServeDemand net (lights_of net guard play) (demand_of net guard) T
+  serve_demand = record {
+    some = guards.denominator.0;
+    permitted = guarded.permitted;
+    carries = guards.balances;
+    serves = each_in (ServesRate net (lights_of net guard play) (demand_of net guard) T) (movement_numbers net) greens_serve;
+  }
 
-    abbrev crowd_of : ℕ → ℕ
-    crowd_of k = crowd net guard (surplus k) b k
+pub passing_guarded : (net : Network) → IsNetwork net → (guard : Guard) → Guards net guard → (surplus : ℕ → ℕ) (bursts : List ℕ) → CarryBursts net guard surplus bursts → (play : Play) (T : ℕ) → IsGuarded net guard play T →
+    (a n : ℕ) → a + n ≤ T → AllByRecursion (λ k. guard.denominator * total (passes_at net (lights_of net guard play) k) a n ≤ guard.denominator * entry bursts k + n * guarded_rate guard k) (movement_numbers net)
+passing_guarded net ok guard guards surplus bursts carry play T guarded a n le = passing_bounded net ok (lights_of net guard play) (demand_of net guard) T (serve_demand net ok guard guards play T guarded) surplus bursts carry a n le
 
-    abbrev came : ℕ → ℕ → ℕ
-    came k t = came_at net ok guard play k t
-
-    -- so no more joins in a row of periods than a crowd, and what the rate carries
-    row_joins : (t : ℕ) → t ≤ T → Passes t → (k : ℕ) → has (movement_numbers net) k ≡ true → (s n : ℕ) → s + n ≤ t →
-        net.shares * guard.denominator * came k (s + n) ≤ net.shares * guard.denominator * came k s + crowd_of k + n * (net.shares * guarded_rate guard k)
-    unfolding Passes
-    row_joins t in_time passes k in' s n le =
-        let l = from_of net k in
-        let link = links_in net ok guard play k in' in
-        let arrived : ℕ = total (arrived_at net ok guard play l) s n in
-        let passed : ℕ = sum_by (λ j. total (passes_at net guard play j) s n) (into_link net l) in
-        let received = received_row net ok guard play l link s n in
-        let surplus_is = at_in (λ k. HasSurplus net k (surplus k)) k (movement_numbers net) in' carry.surpluses (received_at net ok guard play l s) (arrived + passed) in
-        let joined_is : came k (s + n) ≡ joined net l (received_at net ok guard play l s + (arrived + passed)) k = ap (λ r. joined net l r k) received in
-        let each : AllByRecursion (λ j. guard.denominator * total (passes_at net guard play j) s n ≤ guard.denominator * entry b j + n * guarded_rate guard j) (into_link net l) =
-        each_in (λ j. guard.denominator * total (passes_at net guard play j) s n ≤ guard.denominator * entry b j + n * guarded_rate guard j) (into_link net l) (λ j in''. passes j (filter_sub (λ k. goes_to (to_of net k) l) (movement_numbers net) j in'') s n le) in
-        let sums = sum_by-le_at (λ j. guard.denominator * total (passes_at net guard play j) s n) (λ j. guard.denominator * entry b j + n * guarded_rate guard j) (into_link net l) each in
-        let left = sum_by-mul guard.denominator (λ j. total (passes_at net guard play j) s n) (into_link net l) in
-        let right = sum_by-add (λ j. guard.denominator * entry b j) (λ j. n * guarded_rate guard j) (into_link net l) in
-        let bursts_sum = sum_by-mul guard.denominator (entry b) (into_link net l) in
-        let rates_sum = sum_by-mul n (guarded_rate guard) (into_link net l) in
-        joins net.shares net.per guard.denominator (share_of net k) (burst_before net k) (rate_before net k) arrived passed (sum_by (entry b) (into_link net l)) (sum_by (guarded_rate guard) (into_link net l)) (surplus k) n (guarded_rate guard k) (came k s) (came k (s + n)) ok.per
-        (omega (arith, surplus_is, ap (λ c. net.shares * c) joined_is))
-        (arrivals_row net ok guard play T guarded l link s n (omega arith))
-        (omega (arith, sums, left, right, bursts_sum, rates_sum))
-        (at_in (GuardedBalanceRule net guard) k (movement_numbers net) in' guards.balances)
-
-    abbrev start_crowd : ℕ → ℕ
-    start_crowd k = net.shares * guard.denominator * start_of net k + crowd_of k
-
-    -- What is queued at a beginning, or passes in m periods from it on: with what had joined the movement then, it is at most the queue and what has joined by the end of a row of m periods.
-    -- So it is held by what joins since somebody has waited.
-    waited : (t : ℕ) → t ≤ T → Passes t → (k : ℕ) → has (movement_numbers net) k ≡ true → (a m x : ℕ) → a + m ≤ t → x + came k a ≤ queue_at net ok guard play k a + came k (a + m) →
-        Busy (flow_of net k) (λ t. green_in net guard play t k) (queue_at net ok guard play k) (came k) a →
-        ((queue_at net ok guard play k a ≡ 0) × (net.shares * guard.denominator * x ≤ crowd_of k + m * (net.shares * guarded_rate guard k)))
-        ⊎ ((n : ℕ) × (net.shares * guard.denominator * x + net.shares * (n * guarded_rate guard k) ≤ start_crowd k + (1 + n + m) * (net.shares * guarded_rate guard k) + net.shares * (2 * (guarded_rate guard k * red net guard k))))
-    waited t in_time passes k in' a m x le few (nobody none) =
-        let joins = row_joins t in_time passes k in' a m le in
-        let more = mul-le-mul_left (net.shares * guard.denominator) few in
-        inl (none, omega (arith, joins, more, ap (λ q. net.shares * guard.denominator * q) none))
-    waited t in_time passes k in' a m x le few (since s n e waits queued) =
-        let place : s + (1 + n + m) ≡ a + m = omega arith in
-        let joins = row_joins t in_time passes k in' s (1 + n + m) (omega arith) in
-        let joins' : net.shares * guard.denominator * came k (a + m) ≤ net.shares * guard.denominator * came k s + crowd_of k + (1 + n + m) * (net.shares * guarded_rate guard k) =
-        subst (λ u. net.shares * guard.denominator * came k u ≤ net.shares * guard.denominator * came k s + crowd_of k + (1 + n + m) * (net.shares * guarded_rate guard k)) place joins in
-        let greens = greens_serve k in' (s + 1) n (omega arith) waits in
-        let all = holds_since net.shares guard.denominator (flow_of net k) (guarded_rate guard k) (greens_in (λ t. green_in net guard play t k) (s + 1) n) (red net guard k) n (1 + n + m) x (came k s) (came k (a + m)) (crowd_of k) (omega arith) joins' greens in
-        inr (n, omega arith)
-    waited t in_time passes k in' a m x le few (always waits queued) =
-        let place : 0 + (a + m) ≡ a + m = omega arith in
-        let joins = row_joins t in_time passes k in' 0 (a + m) (omega arith) in
-        let joins' : net.shares * guard.denominator * came k (a + m) ≤ net.shares * guard.denominator * came k 0 + crowd_of k + (a + m) * (net.shares * guarded_rate guard k) =
-        subst (λ u. net.shares * guard.denominator * came k u ≤ net.shares * guard.denominator * came k 0 + crowd_of k + (a + m) * (net.shares * guarded_rate guard k)) place joins in
-        let none = none_came net ok guard play k in' in
-        let opening = first_queue net ok guard play k in' in
-        let greens = greens_serve k in' 0 a (omega arith) waits in
-        let all = holds_since net.shares guard.denominator (flow_of net k) (guarded_rate guard k) (greens_in (λ t. green_in net guard play t k) 0 a) (red net guard k) a (a + m) x 0 (start_of net k + came k (a + m)) (start_crowd k)
-        (omega arith) (omega (arith, joins', ap (λ c. net.shares * guard.denominator * c) none)) greens in
-        inr (a, omega arith)
-
-    -- the busy movement
-    busy : (k : ℕ) → has (movement_numbers net) k ≡ true → (a : ℕ) → Busy (flow_of net k) (λ t. green_in net guard play t k) (queue_at net ok guard play k) (came k) a
-    busy k in' a = is_busy (flow_of net k) (λ t. green_in net guard play t k) (queue_at net ok guard play k) (came k) (served net ok guard play k in') a
-
-    carries_of : (k : ℕ) → has (movement_numbers net) k ≡ true → start_crowd k + net.shares * guarded_rate guard k * (2 * red net guard k) ≤ net.shares * guard.denominator * entry b k
-    carries_of k in' = at_in (CarriesBurst net guard surplus b) k (movement_numbers net) in' carry.bursts
-
-    pass_more : (t : ℕ) → suc t ≤ T → Passes t → Passes (suc t)
-    unfolding Passes
-    pass_more t in_time passes k in' a zero le = omega arith
-    pass_more t in_time passes k in' a (suc m) le =
-        let x : ℕ = total (passes_at net guard play k) a (suc m) in
-        let row = queue_row net ok guard play k in' a m in
-        let few = passes_few net ok guard play k (a + m) in
-        let carries = carries_of k in' in
-        ⊎_elim
-        (λ w. let n = w.1 in settled net.shares guard.denominator (guarded_rate guard k) (red net guard k) 0 (suc m) x (start_crowd k) (entry b k) ok.shares (omega arith) carries)
-        (λ w. let n = w.1 in settled net.shares guard.denominator (guarded_rate guard k) (red net guard k) w.0 (suc m) x (start_crowd k) (entry b k) ok.shares (omega arith) carries)
-        (waited t (omega arith) passes k in' a m x (omega arith) (omega arith) (busy k in' a))
-
-    none_passed : Passes 0
-    unfolding Passes
-    none_passed k in' a zero le = omega arith
-    none_passed k in' a (suc n) le = absurd (omega arith)
-
-    passes_at_most : (t : ℕ) → t ≤ T → Passes t
-    passes_at_most zero in_time = none_passed
-    passes_at_most (suc t) in_time = pass_more t in_time (passes_at_most t (omega arith))
-
-    queue_at_most : (t : ℕ) → t ≤ T → (k : ℕ) → has (movement_numbers net) k ≡ true → (bound : ℕ) → Holds net guard (surplus k) b k (1 + 2 * red net guard k) bound → queue_at net ok guard play k t ≤ bound
-    queue_at_most t in_time k in' bound holds =
-        let q : ℕ = queue_at net ok guard play k t in
-        let same = add_none t in
-        ⊎_elim
-        (λ w. let n = w.0 in omega arith)
-        (λ w. let n = w.1 in held net.shares guard.denominator (guarded_rate guard k) (red net guard k) w.0 q (start_crowd k) bound ok.shares guards.denominator.0 (omega arith) holds)
-        (waited t in_time (passes_at_most t in_time) k in' t 0 q (omega arith) (subst (λ u. q + came k t ≤ q + came k u) (sym same) (omega arith)) (busy k in' t))
-
-pub passing_bounded : (net : Network) → IsNetwork net → (guard : Guard) → Guards net guard → (surplus : ℕ → ℕ) (bursts : List ℕ) → CarryBursts net guard surplus bursts → (play : Play) (T : ℕ) → IsGuarded net guard play T →
-    (a n : ℕ) → a + n ≤ T → AllByRecursion (λ k. guard.denominator * total (passes_at net guard play k) a n ≤ guard.denominator * entry bursts k + n * guarded_rate guard k) (movement_numbers net)
-unfolding Passes
-passing_bounded net ok guard guards surplus bursts carry play T guarded a n le =
-    each_in (λ k. guard.denominator * total (passes_at net guard play k) a n ≤ guard.denominator * entry bursts k + n * guarded_rate guard k) (movement_numbers net)
-    (λ k in'. passes_at_most net ok guard guards play T guarded surplus bursts carry T (le_refl T) k in' a n le)
-
-pub queues_bounded : (net : Network) → IsNetwork net → (guard : Guard) → Guards net guard → (surplus : ℕ → ℕ) (bursts : List ℕ) → CarryBursts net guard surplus bursts → (play : Play) (T : ℕ) → IsGuarded net guard play T →
+pub queues_guarded : (net : Network) → IsNetwork net → (guard : Guard) → Guards net guard → (surplus : ℕ → ℕ) (bursts : List ℕ) → CarryBursts net guard surplus bursts → (play : Play) (T : ℕ) → IsGuarded net guard play T →
     (t : ℕ) → t ≤ T → AllByRecursion (λ k. (bound : ℕ) → Holds net guard (surplus k) bursts k (1 + 2 * red net guard k) bound → queue (guarded_state net guard play t) k ≤ bound) (movement_numbers net)
-queues_bounded net ok guard guards surplus bursts carry play T guarded t in_time =
-    each_in (λ k. (bound : ℕ) → Holds net guard (surplus k) bursts k (1 + 2 * red net guard k) bound → queue (guarded_state net guard play t) k ≤ bound) (movement_numbers net)
-    (λ k in' bound holds. queue_at_most net ok guard guards play T guarded surplus bursts carry t in_time k in' bound holds)
+queues_guarded net ok guard guards surplus bursts carry play T guarded t in_time = queues_bounded net ok (lights_of net guard play) (demand_of net guard) T (serve_demand net ok guard guards play T guarded) surplus bursts carry t in_time

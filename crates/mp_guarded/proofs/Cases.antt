@@ -8,8 +8,8 @@ use Rattle.mp_model.specs.Network.{junction_at, from_of, share_of}
 use Rattle.mp_model.specs.Step.{joined}
 use Rattle.mp_model.specs.Worked.{two_approaches}
 use Rattle.mp_guarded.specs.Cases.{two_guard, miscounted_play, unseen_play, MiscountedCase, UnseenCase}
-use Rattle.mp_guarded.specs.Surplus.{HasRoundSurplus}
-use Rattle.mp_guarded.proofs.Surplus.{surpluses}
+use Rattle.mp_served.specs.Surplus.{HasRoundSurplus}
+use Rattle.mp_served.proofs.Surplus.{surpluses}
 
 -- each period of the worked plays
 KeepsAt : ℕ → Type 0

@@ -6,7 +6,8 @@ use Rattle.std.specs.List.{list_all}
 use Rattle.mp_model.specs.Guard.{Guard, is_always_green, sum_with, given_of}
 use Rattle.mp_model.specs.GuardedRun.{Account, account_at, owed_in, paid, is_change}
 use Rattle.mp_model.specs.Network.{Junction, stage_at, has}
-use Rattle.mp_guarded.specs.Greens.{greens_in, KeepsGreens, is_green_at, IsCounted}
+use Rattle.mp_model.specs.Lights.{greens_in}
+use Rattle.mp_guarded.specs.Greens.{KeepsGreens, is_green_at, IsCounted}
 use Rattle.mp_guarded.proofs.Owed.{pays_when_counted, pays_at_most_one, sum_with_le, both}
 
 -- the place in the cycle goes up by 1, or a new cycle begins

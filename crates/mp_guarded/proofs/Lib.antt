@@ -1,12 +1,8 @@
 pub mod Owed
 pub mod Greens
 pub mod Candidates
-pub mod Busy
-pub mod Rows
-pub mod Flows
 pub mod Places
 pub mod Bounds
-pub mod Surplus
 pub mod Runs
 pub mod Sweeps
 pub mod Cases

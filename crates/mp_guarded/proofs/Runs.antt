@@ -9,7 +9,8 @@ use Rattle.mp_laws.proofs.Sums.{sum_by-same_at}
 use Rattle.mp_model.specs.Arrivals.{arrivals_of, IsPermitted}
 use Rattle.mp_model.specs.Guard.{Guard, Guards, GreensFit, CarryBursts, Holds, greens_at, red}
 use Rattle.mp_model.specs.GuardedChoice.{GuardedState, account_in, candidates_in, guarded_advance, guarded_opening, guarded_run, guarded_run_from, guarded_stage, guarded_stages, is_candidate, kept_or, next_account, no_account, passes_under}
-use Rattle.mp_model.specs.GuardedRun.{Account, IsCandidate, KeepsGuard, Play, account_of, guarded_pass, guarded_state, is_green, needed_in, owed_in, paid, stage_of}
+use Rattle.mp_model.specs.GuardedRun.{Account, IsCandidate, KeepsGuard, Play, account_of, guarded_state, lights_of, is_green, needed_in, owed_in, paid, stage_of}
+use Rattle.mp_model.specs.Lights.{lit_pass}
 use Rattle.mp_model.specs.Network.{Network, Junction, flow_of, from_of, goes_out, goes_to, has, into_link, junction_at, junction_numbers, junction_of_movement, link_numbers, movement_numbers, no_junction, stage_at, stage_numbers, to_of}
 use Rattle.mp_model.specs.NetworkRules.{IsNetwork}
 use Rattle.mp_model.specs.Pressure.{pressure}
@@ -17,7 +18,7 @@ use Rattle.mp_model.specs.Split.{first_greatest}
 use Rattle.mp_model.specs.Step.{State, got_by, new_queue, departing_by, queue, received_by, step_by}
 use Rattle.mp_guarded.specs.Greens.{KeepsGreens}
 use Rattle.mp_guarded.specs.Runs.{TakesCandidates, IsBounded}
-use Rattle.mp_guarded.proofs.Bounds.{queues_bounded}
+use Rattle.mp_guarded.proofs.Bounds.{queues_guarded}
 use Rattle.mp_guarded.proofs.Candidates.{before_in, candidate_there}
 use Rattle.mp_guarded.proofs.Places.{at_place, junction_in, range_has}
 
@@ -121,15 +122,15 @@ module _ (net : Network) (ok : IsNetwork net) (guard : Guard) (guards : Guards n
       account_read (next_account net guard (queue (run_at t).state) (run_at t) (guarded_stages net guard (queue (run_at t).state) (run_at t))) j in'
       ∙ ap₂ (λ n account. record { owed = owed_in guard.cycle (greens_at guard j) n (paid guard.lost (junction_at net j) (queue (run_at t).state) account (stage_of play j t)); before = Some (stage_of play j t) }) one (account_is t j in')
 
-  pass_is : (t k : ℕ) → has (movement_numbers net) k ≡ true → passes_under net guard (run_at t) (play.stages t) k ≡ guarded_pass net guard play t (queue (run_at t).state) k
+  pass_is : (t k : ℕ) → has (movement_numbers net) k ≡ true → passes_under net guard (run_at t) (play.stages t) k ≡ lit_pass net (lights_of net guard play) t (queue (run_at t).state) k
   pass_is t k in' = ap (λ account. cond (is_green guard.lost (junction_at net (junction_of_movement net k)) account.before (stage_of play (junction_of_movement net k) t) k) (min (flow_of net k) (queue (run_at t).state k)) 0) (account_is t (junction_of_movement net k) (junction_in net ok k in'))
 
   state_is : (t : ℕ) → (run_at t).state ≡ guarded_state net guard play t
   unfolding run_at
   state_is zero = refl
   state_is (suc t) =
-      step_same net (passes_under net guard (run_at t) (play.stages t)) (guarded_pass net guard play t (queue (run_at t).state)) (arrivals_of net (arrivals t)) (run_at t).state (pass_is t)
-      ∙ ap (λ state. step_by net (guarded_pass net guard play t (queue state)) (arrivals_of net (arrivals t)) state) (state_is t)
+      step_same net (passes_under net guard (run_at t) (play.stages t)) (lit_pass net (lights_of net guard play) t (queue (run_at t).state)) (arrivals_of net (arrivals t)) (run_at t).state (pass_is t)
+      ∙ ap (λ state. step_by net (lit_pass net (lights_of net guard play) t (queue state)) (arrivals_of net (arrivals t)) state) (state_is t)
 
   -- ---- the junctions keep to the guard
   greens_until : (t : ℕ) → ((u : ℕ) → u < t → KeepsGuard net guard play u) → (j : ℕ) → has (junction_numbers net) j ≡ true → KeepsGreens guard (greens_at guard j) (junction_at net j) play.counts (stage_of play j) t
@@ -176,7 +177,7 @@ module _ (net : Network) (ok : IsNetwork net) (guard : Guard) (guards : Guards n
 
   bounded_at : (surplus : ℕ → ℕ) (bursts : List ℕ) → CarryBursts net guard surplus bursts → (T : ℕ) → IsPermitted net (map arrivals (range_with_len 0 T)) → (t : ℕ) → t ≤ T → IsBounded net guard surplus bursts (run_at t)
   bounded_at surplus bursts carry T permitted t in_time = subst (λ state. AllByRecursion (λ k. (bound : ℕ) → Holds net guard (surplus k) bursts k (1 + 2 * red net guard k) bound → queue state k ≤ bound) (movement_numbers net)) (sym (state_is t))
-      (queues_bounded net ok guard guards surplus bursts carry play T (record { permitted = permitted; keeps = keeps_until T }) t in_time)
+      (queues_guarded net ok guard guards surplus bursts carry play T (record { permitted = permitted; keeps = keeps_until T }) t in_time)
 
   -- ---- the states of a list of periods are those
   all_states : (P : GuardedState → Type 0) (A : List (List ℕ)) (s : ℕ) → ((i : ℕ) → i < length A → arrivals (s + i) ≡ get_or A i []) → ((t : ℕ) → t ≤ s + length A → P (run_at t)) → AllByRecursion P (guarded_run_from net guard (run_at s) A)

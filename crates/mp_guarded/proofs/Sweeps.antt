@@ -5,7 +5,8 @@ use Rattle.std.specs.List.{AllByRecursion}
 use Rattle.std.proofs.lemmas.Bool.{cases_lt}
 use Rattle.mp_laws.proofs.Lists.{at_in, each_in, filter_sub, numbered}
 use Rattle.mp_laws.proofs.Sums.{sum_by-le_at}
-use Rattle.mp_model.specs.Guard.{Guard, Guards, HasSurplus, CarryBursts, CarriesBurst, Holds, IsGuardedBound, crowd, guarded_rate, red}
+use Rattle.mp_model.specs.Guard.{Guard, Guards, CarryBursts, Holds, IsGuardedBound, crowd, demand_of, guarded_rate, red}
+use Rattle.mp_model.specs.Lights.{HasSurplus, HoldsUnserved}
 use Rattle.mp_model.specs.GuardedBursts.{quotient_up, least_holding, sweep, swept, AreAtRest, guarded_bound}
 use Rattle.mp_model.specs.Network.{Network, movement_numbers, entry, from_of, goes_to, has, into_link, share_of, start_of, to_of}
 use Rattle.mp_model.specs.NetworkRules.{IsNetwork}
@@ -62,14 +63,14 @@ module _ (net : Network) (ok : IsNetwork net) (guard : Guard) (guards : Guards n
     below c carry (suc n) = each_in (λ k. entry (swept net guard surplus (suc n)) k ≤ entry c k) (movement_numbers net) (λ k in'.
         let e = sweep_at (swept net guard surplus n) k in' in
         let grows = crowd_grows (surplus k) (swept net guard surplus n) c k (below c carry n) in
-        let holds = at_in (CarriesBurst net guard surplus c) k (movement_numbers net) in' carry.bursts in
+        let holds = at_in (HoldsUnserved net (demand_of net guard) surplus c) k (movement_numbers net) in' carry.bursts in
         let least = holding_least (surplus k) (swept net guard surplus n) k (2 * red net guard k) (entry c k) (omega arith) in
         omega arith)
 
     at_rest : AllByRecursion (λ k. HasSurplus net k (surplus k)) (movement_numbers net) → (b : List ℕ) → AreAtRest net guard surplus b → CarryBursts net guard surplus b
     at_rest surpluses b rest = record {
       surpluses = surpluses;
-      bursts = each_in (CarriesBurst net guard surplus b) (movement_numbers net) (λ k in'.
+      bursts = each_in (HoldsUnserved net (demand_of net guard) surplus b) (movement_numbers net) (λ k in'.
           let e : entry b k ≡ least_holding net guard (surplus k) b k (2 * red net guard k) = ap (λ bs. entry bs k) (sym rest) ∙ sweep_at b k in' in
           subst (λ n. Holds net guard (surplus k) b k (2 * red net guard k) n) (sym e) (holding (surplus k) b k (2 * red net guard k)));
     }

@@ -3,7 +3,8 @@ use Rattle.std.specs.Prelude.{◌≡◌, ◌==◌, ◌<◌, ℕ, ◌%◌, cond, 
 use Rattle.std.specs.List.{AllByRecursion}
 use Rattle.mp_model.specs.Arrivals.{IsPermitted}
 use Rattle.mp_model.specs.Guard.{Guard, Guards, CarryBursts, IsGuardedBound}
-use Rattle.mp_model.specs.GuardedRun.{Play, IsCandidate, account_of, stage_of, first_arrivals, guarded_state}
+use Rattle.mp_model.specs.GuardedRun.{Play, IsCandidate, account_of, stage_of, guarded_state, lights_of}
+use Rattle.mp_model.specs.Lights.{lit_arrivals}
 use Rattle.mp_model.specs.Network.{junction_at, junction_numbers}
 use Rattle.mp_model.specs.Step.{queue}
 use Rattle.mp_model.specs.Worked.{two_approaches}
@@ -39,6 +40,6 @@ pub record MiscountedCase : Type 0 where
 
 -- Where a movement with somebody waiting is counted as empty, permitted arrivals and candidates lead above that bound.
 pub record UnseenCase : Type 0 where
-  pub permitted : IsPermitted two_approaches (first_arrivals unseen_play 12)
+  pub permitted : IsPermitted two_approaches (lit_arrivals (lights_of two_approaches two_guard unseen_play) 12)
   pub candidates : (t : ℕ) → t < 12 → AllByRecursion (λ j. IsCandidate two_guard (junction_at two_approaches j) (unseen_play.counts t) t (account_of two_approaches two_guard unseen_play j t) (stage_of unseen_play j t)) (junction_numbers two_approaches)
   pub above : queue (guarded_state two_approaches two_guard unseen_play 12) 1 ≡ 5

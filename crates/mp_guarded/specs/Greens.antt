@@ -1,13 +1,9 @@
 -- The laws on how often a movement is green under a guard.
-use Rattle.std.specs.Prelude.{◌≡◌, ◌≤◌, ◌<◌, ℕ, zero, suc, ◌+◌, ◌-◌, ◌*◌, Bool, cond, List, length}
+use Rattle.std.specs.Prelude.{◌≡◌, ◌≤◌, ◌<◌, ℕ, ◌+◌, ◌-◌, ◌*◌, Bool, List, length}
 use Rattle.mp_model.specs.Guard.{Guard, GreensFit, given_of}
 use Rattle.mp_model.specs.GuardedRun.{IsCandidate, account_at, is_green}
+use Rattle.mp_model.specs.Lights.{greens_in}
 use Rattle.mp_model.specs.Network.{Junction}
-
--- This is how many of the n periods from a on are green.
-abbrev pub greens_in : (ℕ → Bool) → ℕ → ℕ → ℕ
-greens_in green a zero = 0
-greens_in green a (suc n) = greens_in green a n + cond (green (a + n)) 1 0
 
 -- A junction keeps to its greens in the first T periods, by the counts and the stages of each: they are one per stage, they fit into the cycle, and each stage is a candidate.
 pub record KeepsGreens (guard : Guard) (greens : List ℕ) (j : Junction) (counts : ℕ → ℕ → ℕ) (stages : ℕ → ℕ) (T : ℕ) : Type 0 where

@@ -1,9 +1,11 @@
 -- The law on the bursts that sweeps find.
 use Rattle.std.specs.Prelude.{◌≤◌, ℕ, List}
 use Rattle.std.specs.List.{AllByRecursion}
-use Rattle.mp_model.specs.Guard.{Guard, Guards, HasSurplus, CarryBursts, IsGuardedBound}
+use Rattle.mp_model.specs.Guard.{Guard, Guards, CarryBursts, IsGuardedBound}
 use Rattle.mp_model.specs.GuardedBursts.{swept, AreAtRest, guarded_bound}
+use Rattle.mp_model.specs.Lights.{HasSurplus}
 use Rattle.mp_model.specs.Network.{Network, movement_numbers, entry}
+use Rattle.mp_model.specs.Lights.{HasSurplus}
 use Rattle.mp_model.specs.NetworkRules.{IsNetwork}
 
 -- The bursts carry those before them, no bursts that do so are smaller at any movement, and under them the printed bound is the least.

@@ -2,12 +2,10 @@
 #![tactic(auto)]
 
 ghost use Rattle.mp_guarded.specs.Bounds.{GuardedBoundLaw, GuardedPassingLaw};
-ghost use Rattle.mp_guarded.specs.Busy.{BusyLaw};
 ghost use Rattle.mp_guarded.specs.Candidates.{CandidateLaw};
 ghost use Rattle.mp_guarded.specs.Cases.{MiscountedCase, UnseenCase};
 ghost use Rattle.mp_guarded.specs.Greens.{GreensLaw, WaitLaw};
 ghost use Rattle.mp_guarded.specs.Runs.{GuardedRunLaw, GuardedStagesLaw};
-ghost use Rattle.mp_guarded.specs.Surplus.{SurplusLaw};
 ghost use Rattle.mp_guarded.specs.Sweeps.{SweepsLaw};
 
 /// However a cycle is cut, a movement with somebody waiting gets the greens that it is given, less
@@ -24,12 +22,6 @@ pub fn wait_law()
 /// What a junction needs is never more than what is left of the cycle, so a candidate is always there.
 pub fn candidate_law()
     ensures { CandidateLaw }
-{}
-
-/// The queue of one movement is what joined since somebody has been waiting, less what its greens
-/// served (Lindley 1952).
-pub fn busy_law()
-    ensures { BusyLaw }
 {}
 
 /// What passes in any row of periods is a burst and a rate (Cruz 1991), also where movements lead in
@@ -52,11 +44,6 @@ pub fn guarded_stages_law()
 /// No queue of that run is above its bound: it is a play whose counts are the queues.
 pub fn guarded_run_law()
     ensures { GuardedRunLaw }
-{}
-
-/// The surplus of a movement is decided within one round of the split.
-pub fn surplus_law()
-    ensures { SurplusLaw }
 {}
 
 /// Where sweeps from a list of zeros have come to rest, the bursts are the least that carry those

@@ -1,8 +1,8 @@
 -- Guards: what each stage is owed in a cycle, the rules of a guard, and the bursts and bounds that follow from it.
 use Rattle.std.specs.Prelude.{◌≡◌, ◌≤◌, ℕ, ◌+◌, ◌-◌, ◌*◌, Bool, cond, nat_lt, List, [], ◌∷◌, length, sum, sum_by, slice_index_or}
 use Rattle.std.specs.List.{AllByRecursion, list_all}
-use Rattle.mp_model.specs.Network.{Network, Junction, movement_numbers, junction_numbers, junction_at, junction_of_movement, from_of, share_of, flow_of, start_of, rate_before, burst_before, into_link, has, entry}
-use Rattle.mp_model.specs.Step.{joined}
+use Rattle.mp_model.specs.Network.{Network, Junction, movement_numbers, junction_numbers, junction_at, junction_of_movement, flow_of, has, entry}
+use Rattle.mp_model.specs.Lights.{Demand, CarriesRate, CarryRates, HasSurplus, HoldsRate, crowd_by}
 
 -- A guard has a cycle in periods, the lost periods of a change of stage, a denominator, a rate per movement, in vehicles per period times the denominator, and for each junction the greens of its stages, in periods per cycle.
 pub record Guard : Type 0 where
@@ -42,6 +42,10 @@ given net guard k = let j = junction_of_movement net k in given_of guard.cycle (
 abbrev pub red : Network → Guard → ℕ → ℕ
 red net guard k = guard.cycle - given net guard k
 
+-- The demand of a guard has its rates, each of which may go unserved in twice the red periods of its movement.
+abbrev pub demand_of : Network → Guard → Demand
+demand_of net guard = record { denominator = guard.denominator; rate = guarded_rate guard; unserved = λ k. 2 * red net guard k }
+
 -- This is how many stages owe something.
 abbrev pub owing : List ℕ → ℕ
 owing owed = sum_by (λ n. cond (nat_lt 0 n) 1 0) owed
@@ -70,9 +74,9 @@ GreenRule guard j s = entry (greens_at guard j) s ≤ guard.cycle
 abbrev pub GreensFit : Guard → List ℕ → Type 0
 GreensFit guard greens = sum greens + guard.lost * owing greens ≤ guard.cycle
 
--- The rate of movement k carries its share of what its link receives, from outside and from the movements into it.
+-- The rate of movement k carries its share of what its link receives.
 abbrev pub GuardedBalanceRule : Network → Guard → ℕ → Type 0
-GuardedBalanceRule net guard k = share_of net k * (rate_before net k * guard.denominator + net.per * sum_by (guarded_rate guard) (into_link net (from_of net k))) ≤ net.shares * net.per * guarded_rate guard k
+GuardedBalanceRule net guard k = CarriesRate net (demand_of net guard) k
 
 -- Movement k is given a period at least, and its flow in the periods that it is given serves its rate over the cycle.
 pub record GuardedServeRule (net : Network) (guard : Guard) (k : ℕ) : Type 0 where
@@ -97,32 +101,22 @@ pub record Guards (net : Network) (guard : Guard) : Type 0 where
   pub balances : AllByRecursion (GuardedBalanceRule net guard) (movement_numbers net)
   pub serves : AllByRecursion (GuardedServeRule net guard) (movement_numbers net)
 
--- Of any r vehicles of its link that come one after the other, behind any n, movement k gets at most its share and this surplus, both in vehicles times the share total.
-abbrev pub HasSurplus : Network → ℕ → ℕ → Type 0
-HasSurplus net k surplus = (n r : ℕ) → net.shares * joined net (from_of net k) (n + r) k ≤ net.shares * joined net (from_of net k) n k + share_of net k * r + surplus
-
 -- The surplus of movement k is the least such number.
 pub record IsSurplus (net : Network) (k surplus : ℕ) : Type 0 where
   pub holds : HasSurplus net k surplus
   pub least : (n : ℕ) → HasSurplus net k n → surplus ≤ n
 
--- The vehicles that may come to movement k at once, beside its rate, times the share total and the denominator: its share of the burst of its link and of the bursts of the movements into it, and its surplus.
+-- The vehicles that may come to movement k at once, beside its rate, times the share total and the denominator.
 abbrev pub crowd : Network → Guard → ℕ → List ℕ → ℕ → ℕ
-crowd net guard surplus bursts k = guard.denominator * (share_of net k * (burst_before net k + sum_by (entry bursts) (into_link net (from_of net k))) + surplus)
+crowd net guard surplus bursts k = crowd_by net guard.denominator surplus bursts k
 
 -- A number of vehicles holds the start queue of movement k, those that may come at once, and those that come at its rate in so many periods.
 abbrev pub Holds : Network → Guard → ℕ → List ℕ → ℕ → ℕ → ℕ → Type 0
-Holds net guard surplus bursts k periods n =
-    net.shares * guard.denominator * start_of net k + crowd net guard surplus bursts k + net.shares * guarded_rate guard k * periods ≤ net.shares * guard.denominator * n
+Holds net guard surplus bursts k periods n = HoldsRate net (demand_of net guard) surplus bursts k periods n
 
--- The burst of movement k holds what comes while it may be without green at the end of a cycle and the beginning of the next.
-abbrev pub CarriesBurst : Network → Guard → (ℕ → ℕ) → List ℕ → ℕ → Type 0
-CarriesBurst net guard surplus bursts k = Holds net guard (surplus k) bursts k (2 * red net guard k) (entry bursts k)
-
--- These bursts carry those before them.
-pub record CarryBursts (net : Network) (guard : Guard) (surplus : ℕ → ℕ) (b : List ℕ) : Type 0 where
-  pub surpluses : AllByRecursion (λ k. HasSurplus net k (surplus k)) (movement_numbers net)
-  pub bursts : AllByRecursion (CarriesBurst net guard surplus b) (movement_numbers net)
+-- These bursts carry those before them: each holds what comes while its movement may be without green at the end of a cycle and the beginning of the next.
+abbrev pub CarryBursts : Network → Guard → (ℕ → ℕ) → List ℕ → Type 0
+CarryBursts net guard surplus b = CarryRates net (demand_of net guard) surplus b
 
 -- The guarded bound of movement k under some bursts is the least number that holds what comes in one period more.
 pub record IsGuardedBound (net : Network) (guard : Guard) (surplus : ℕ → ℕ) (bursts : List ℕ) (k bound : ℕ) : Type 0 where

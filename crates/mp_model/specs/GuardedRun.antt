@@ -1,11 +1,10 @@
 -- What the stages of a junction owe from period to period, which stages are candidates, and the run under a guard.
-use Rattle.std.specs.Prelude.{◌≡◌, ◌==◌, ◌≤◌, ℕ, zero, suc, ◌+◌, ◌-◌, ◌*◌, ◌%◌, min, Bool, false, cond, not, ◌&&◌, ◌||◌, nat_lt, List, length, map, sum, Option, Some, None, slice_set, find}
-use Rattle.std.specs.List.{AllByRecursion, list_all, range_with_len}
-use Rattle.mp_model.specs.Arrivals.{arrivals_of}
+use Rattle.std.specs.Prelude.{◌≡◌, ◌==◌, ◌≤◌, ℕ, zero, suc, ◌+◌, ◌-◌, ◌*◌, ◌%◌, Bool, false, cond, not, ◌&&◌, ◌||◌, nat_lt, List, length, sum, Option, Some, None, slice_set, find}
+use Rattle.std.specs.List.{AllByRecursion, list_all}
 use Rattle.mp_model.specs.Guard.{Guard, greens_at, is_always_green, owing}
-use Rattle.mp_model.specs.Network.{Network, Junction, movement_numbers, junction_numbers, junction_at, junction_of_movement, flow_of, stage_numbers, stage_at, has, entry}
-use Rattle.mp_model.specs.Run.{opening}
-use Rattle.mp_model.specs.Step.{State, queue, step_by}
+use Rattle.mp_model.specs.Lights.{Lights, lit_state}
+use Rattle.mp_model.specs.Network.{Network, Junction, movement_numbers, junction_numbers, junction_at, junction_of_movement, stage_numbers, stage_at, has, entry}
+use Rattle.mp_model.specs.Step.{State, queue}
 
 -- The account of a junction is what each stage owes, and the stage of the period before, if there was one.
 pub record Account : Type 0 where
@@ -80,22 +79,15 @@ green_in net guard play t k =
     let j = junction_of_movement net k in
     is_green guard.lost (junction_at net j) (account_of net guard play j t).before (stage_of play j t) k
 
--- A movement that is green passes the lesser of its flow and its queue, whatever its weight, and every other passes 0.
-abbrev pub guarded_pass : Network → Guard → Play → ℕ → (ℕ → ℕ) → ℕ → ℕ
-guarded_pass net guard play t q k = cond (green_in net guard play t k) (min (flow_of net k) (q k)) 0
+-- These are the lights of a play.
+abbrev pub lights_of : Network → Guard → Play → Lights
+lights_of net guard play = record { arrivals = play.arrivals; green = green_in net guard play }
 
 -- This is the state at the beginning of period t.
 abbrev pub guarded_state : Network → Guard → Play → ℕ → State
-guarded_state net guard play zero = opening net
-guarded_state net guard play (suc t) =
-    let state : State = guarded_state net guard play t in
-    step_by net (guarded_pass net guard play t (queue state)) (arrivals_of net (play.arrivals t)) state
+guarded_state net guard play t = lit_state net (lights_of net guard play) t
 
 -- In period t each junction takes a candidate, and a movement whose count is 0 has nobody waiting.
 pub record KeepsGuard (net : Network) (guard : Guard) (play : Play) (t : ℕ) : Type 0 where
   pub candidates : AllByRecursion (λ j. IsCandidate guard (junction_at net j) (play.counts t) t (account_of net guard play j t) (stage_of play j t)) (junction_numbers net)
   pub zeros : AllByRecursion (λ k. play.counts t k ≡ 0 → queue (guarded_state net guard play t) k ≡ 0) (movement_numbers net)
-
--- These are the arrivals of the first n periods.
-abbrev pub first_arrivals : Play → ℕ → List (List ℕ)
-first_arrivals play n = map play.arrivals (range_with_len 0 n)

@@ -1,9 +1,9 @@
 -- The queue of one movement, period by period.
 use Rattle.std.proofs.Common.{◌≡◌, ℕ, zero, suc, ◌+◌, ◌*◌, ◌≤◌, ◌<◌, min, Bool, true, false, cond, arith, refl, sym, ◌∙◌, ap, subst, ⊎_elim}
 use Rattle.std.proofs.lemmas.Bool.{cases_lt}
-use Rattle.mp_guarded.specs.Greens.{greens_in}
-use Rattle.mp_guarded.specs.Busy.{IsServed, IsWaiting, Busy}
-use Rattle.mp_guarded.specs.Busy.Busy.{nobody, since, always}
+use Rattle.mp_model.specs.Lights.{IsWaiting, greens_in}
+use Rattle.mp_served.specs.Busy.{IsServed, Busy}
+use Rattle.mp_served.specs.Busy.Busy.{nobody, since, always}
 
 module _ (flow : ℕ) (green : ℕ → Bool) (q came : ℕ → ℕ) (served : IsServed flow green q came) where
   -- somebody has waited one period more

@@ -1,7 +1,7 @@
 -- The law on surpluses: one round of the split decides.
 use Rattle.std.specs.Prelude.{◌≤◌, ◌<◌, ℕ, ◌+◌, ◌*◌}
 use Rattle.std.specs.List.{AllByRecursion}
-use Rattle.mp_model.specs.Guard.{HasSurplus}
+use Rattle.mp_model.specs.Lights.{HasSurplus}
 use Rattle.mp_model.specs.Network.{Network, movement_numbers, from_of, share_of}
 use Rattle.mp_model.specs.NetworkRules.{IsNetwork}
 use Rattle.mp_model.specs.Step.{joined}

@@ -4,12 +4,12 @@ use Rattle.std.specs.List.{AllByRecursion}
 use Rattle.mp_laws.proofs.Credits.{again}
 use Rattle.mp_laws.proofs.LinkSplits.{link_splits}
 use Rattle.mp_laws.proofs.Lists.{at_in, each_in, has_filter}
-use Rattle.mp_model.specs.Guard.{HasSurplus}
+use Rattle.mp_model.specs.Lights.{HasSurplus}
 use Rattle.mp_model.specs.Network.{Network, movement_numbers, link_numbers, from_of, share_of, out_of, has}
 use Rattle.mp_model.specs.NetworkRules.{IsNetwork}
 use Rattle.mp_model.specs.Split.{split_counts, IsSplit}
 use Rattle.mp_model.specs.Step.{joined}
-use Rattle.mp_guarded.specs.Surplus.{HasRoundSurplus}
+use Rattle.mp_served.specs.Surplus.{HasRoundSurplus}
 
 -- over plain numbers: a rounds before, c rounds of the vehicles
 rounds_add : (W w a c u v r e s t : ℕ) → s ≡ w * (a + c) + v → t ≡ w * a + u → W * v ≤ W * u + w * r + e → W * s ≤ W * t + w * (c * W + r) + e

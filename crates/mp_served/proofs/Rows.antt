@@ -4,7 +4,7 @@ use Rattle.std.specs.List.{range_with_len}
 use Rattle.std.proofs.lemmas.List.FromFn.{sum_by-map-range_with_len_more, length-map-range_with_len}
 use Rattle.mp_model.specs.Arrivals.{KeepsTo}
 use Rattle.mp_laws.proofs.Sums.{sum_by-add, sum_by-zero}
-use Rattle.mp_guarded.specs.Bounds.{total}
+use Rattle.mp_served.specs.Bounds.{total}
 
 pub add_none : (a : ℕ) → a + 0 ≡ a
 add_none a = omega arith

@@ -1,5 +1,0 @@
-use Rattle.mp_guarded.proofs.busy_law.Goals as goal
-use Rattle.mp_guarded.proofs.Busy.{is_busy}
-
-pub returns : goal.returns
-returns c = is_busy

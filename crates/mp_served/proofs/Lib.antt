@@ -1,0 +1,5 @@
+pub mod Busy
+pub mod Rows
+pub mod Flows
+pub mod Bounds
+pub mod Surplus
