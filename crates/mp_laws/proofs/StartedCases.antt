@@ -1,5 +1,5 @@
 -- Worked networks with start queues and old reports meet the premises of the laws.
-use Rattle.std.proofs.Common.{[], ◌∷◌, refl, lit≤, lit<}
+use Rattle.std.proofs.Common.{ℕ, ◌≤◌, [], ◌∷◌, refl, lit≤, lit<}
 use Rattle.std.specs.List.{IsDistinct}
 use Rattle.mp_model.specs.Certificate.{Certifies}
 use Rattle.mp_model.specs.NetworkRules.{IsAcceptable}
@@ -7,9 +7,10 @@ use Rattle.mp_model.specs.Worked.{two_approaches_from, two_approaches_cert, dela
 use Rattle.mp_laws.specs.Cases.{StartedCase, DelayedCase}
 use Rattle.mp_laws.proofs.Cases.{le, two_case, two_slack, tandem_case, tandem_slack}
 
-started_acceptable : IsAcceptable (two_approaches_from 50 30)
+-- two approaches from any queues
+pub started_acceptable : (a b : ℕ) → a ≤ 1000000 → b ≤ 1000000 → IsAcceptable (two_approaches_from a b)
 unfolding IsDistinct
-started_acceptable = record {
+started_acceptable a b few few' = record {
   network = record {
     shares = lit≤ tt;
     per = lit≤ tt;
@@ -33,7 +34,7 @@ started_acceptable = record {
     bursts = (lit≤ tt, (lit≤ tt, tt));
     rates = (lit≤ tt, (lit≤ tt, tt));
     flows = (lit≤ tt, (lit≤ tt, tt));
-    starts = (lit≤ tt, (lit≤ tt, tt));
+    starts = (few, (few', tt));
     delay = lit≤ tt;
     stages = (lit≤ tt, tt);
     own = (lit≤ tt, tt);
@@ -66,7 +67,7 @@ started_certified = record {
 
 pub started_case : StartedCase
 started_case = record {
-  acceptable = started_acceptable;
+  acceptable = started_acceptable 50 30 (lit≤ tt) (lit≤ tt);
   certified = started_certified;
   slack = two_slack;
   greatest = record { above = lit≤ tt; reached = (two_approaches_cert, started_certified, two_slack); shown = (1 ∷ 1 ∷ [], record { vector = record { lengths = refl; some = lit≤ tt }; equal = refl }) };
