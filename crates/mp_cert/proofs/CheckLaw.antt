@@ -25,15 +25,15 @@ all_unmap : {X Y : Type 0} (P : Y → Type 0) (f : X → Y) (xs : List X) → Al
 all_unmap P f [] a = tt
 all_unmap P f (x ∷ xs) a = (a.0, all_unmap P f xs a.1)
 
-all_map : {X Y : Type 0} (P : Y → Type 0) (f : X → Y) (xs : List X) → AllByRecursion (λ x. P (f x)) xs → AllByRecursion P (map f xs)
+pub all_map : {X Y : Type 0} (P : Y → Type 0) (f : X → Y) (xs : List X) → AllByRecursion (λ x. P (f x)) xs → AllByRecursion P (map f xs)
 all_map P f [] a = tt
 all_map P f (x ∷ xs) a = (a.0, all_map P f xs a.1)
 
-all_parts : {X Y : Type 0} (P : Y → Type 0) (f : X → List Y) (xs : List X) → AllByRecursion P (flat_map f xs) → AllByRecursion (λ x. AllByRecursion P (f x)) xs
+pub all_parts : {X Y : Type 0} (P : Y → Type 0) (f : X → List Y) (xs : List X) → AllByRecursion P (flat_map f xs) → AllByRecursion (λ x. AllByRecursion P (f x)) xs
 all_parts P f [] a = tt
 all_parts P f (x ∷ xs) a = let both = all_split P (f x) (flat_map f xs) a in (both.0, all_parts P f xs both.1)
 
-all_whole : {X Y : Type 0} (P : Y → Type 0) (f : X → List Y) (xs : List X) → AllByRecursion (λ x. AllByRecursion P (f x)) xs → AllByRecursion P (flat_map f xs)
+pub all_whole : {X Y : Type 0} (P : Y → Type 0) (f : X → List Y) (xs : List X) → AllByRecursion (λ x. AllByRecursion P (f x)) xs → AllByRecursion P (flat_map f xs)
 all_whole P f [] a = tt
 all_whole P f (x ∷ xs) a = all_join P (f x) (flat_map f xs) a.0 (all_whole P f xs a.1)
 

@@ -17,7 +17,7 @@ all_natural : (ns : List ℤ) → EachNatural ns → AreNatural ns
 all_natural ns each = All-from_recursion (λ n. pos 0 ≤ℤ n) ns each
 
 -- rows of some forms have their counts, and no number below 0
-abbrev RowsFit : List Form → List (List ℤ) → Type 0
+abbrev pub RowsFit : List Form → List (List ℤ) → Type 0
 RowsFit [] [] = Unit {0}
 RowsFit [] (row ∷ rows) = ⊥
 RowsFit (form ∷ forms) [] = ⊥
@@ -44,7 +44,7 @@ either : {X : Type 0} (v : Bool) (r s : Result X ℕ) (x : X) (P : Type 0) → (
 either true r s x P first second is = first is
 either false r s x P first second is = second is
 
-rows_fit : (lines : List (List ℕ)) (n : ℕ) (forms : List Form) (rows : List (List ℤ)) → rows_of n forms lines ≡ Ok rows → RowsFit forms rows
+pub rows_fit : (lines : List (List ℕ)) (n : ℕ) (forms : List Form) (rows : List (List ℤ)) → rows_of n forms lines ≡ Ok rows → RowsFit forms rows
 rows_fit [] n [] rows is = let P : List (List ℤ) → Type 0 = RowsFit [] in subst P (same_Ok [] rows is) tt
 rows_fit [] n (form ∷ forms) rows is = absurd (cc)
 rows_fit (line ∷ lines) n [] rows is =
@@ -122,7 +122,7 @@ all_rows net (first ∷ d ∷ e ∷ h ∷ others) fit =
       },
     )
 
-made_Ok : {X Y : Type 0} (f : X → Y) (r : Result X ℕ) (y : Y) → made f r ≡ Ok y → (x : X) × (r ≡ Ok x) × (f x ≡ y)
+pub made_Ok : {X Y : Type 0} (f : X → Y) (r : Result X ℕ) (y : Y) → made f r ≡ Ok y → (x : X) × (r ≡ Ok x) × (f x ≡ y)
 made_Ok f (Ok x) y is = (x, refl, same_Ok (f x) y is)
 made_Ok f (Err n) y is = absurd (cc)
 

@@ -34,7 +34,7 @@ summed_is term xs = refl
 pub ruleset running = (to_z-of_z, running_start, running_more, running_passes, running_end, summed_is)
 
 -- the same over the numbers from 1 on
-number_at : (n i : ℕ) → i < n → get_or (numbers_to n) i 0 ≡ i + 1
+pub number_at : (n i : ℕ) → i < n → get_or (numbers_to n) i 0 ≡ i + 1
 number_at n i h = get_or-range_with_len 1 n i 0 h ∙ omega arith
 
 pub counting_more : {S : Type 0} (step : S → ℕ → Option S) (first : S) (n i : ℕ) (now next : S) → Running step first (numbers_to n) i now → i < n → step now (i + 1) ≡ Some next → Running step first (numbers_to n) (i + 1) next

@@ -27,7 +27,7 @@ abbrev written : List ℤ → List ℕ
 written ns = flat_map (λ n. 32 ∷ signed_decimal n) ns
 
 -- a byte that stands in a line
-abbrev is_inner : ℕ → Bool
+abbrev pub is_inner : ℕ → Bool
 is_inner b = nat_le 32 b
 
 digit_no_space : (b : ℕ) → is_digit b ≡ true → (b == 32) ≡ false
@@ -63,10 +63,10 @@ line_read words count ns size all =
 both : (a b : Bool) → a ≡ true → b ≡ true → (a && b) ≡ true
 both a b first second = rw (first, second) refl
 
-inner_append : (xs ys : List ℕ) → list_all is_inner xs ≡ true → list_all is_inner ys ≡ true → list_all is_inner (xs ++ ys) ≡ true
+pub inner_append : (xs ys : List ℕ) → list_all is_inner xs ≡ true → list_all is_inner ys ≡ true → list_all is_inner (xs ++ ys) ≡ true
 inner_append xs ys first second = list_all-append is_inner xs ys ∙ both (list_all is_inner xs) (list_all is_inner ys) first second
 
-digits_inner : (bs : List ℕ) → list_all is_digit bs ≡ true → list_all is_inner bs ≡ true
+pub digits_inner : (bs : List ℕ) → list_all is_digit bs ≡ true → list_all is_inner bs ≡ true
 digits_inner [] digits = refl
 digits_inner (b ∷ bs) digits =
     let here : is_digit b ≡ true = grind (arith, nat_tests) in

@@ -3,7 +3,7 @@
 
 mod checking;
 mod lengths;
-mod places;
+pub mod places;
 mod print;
 mod read;
 mod read_lines;
@@ -19,6 +19,7 @@ pub use crate::checking::check;
 pub use crate::lengths::has_lengths;
 pub use crate::print::{print_against, print_cert};
 pub use crate::read::{read_against, read_cert};
+pub use crate::read_lines::TextLines;
 pub use crate::slacks::slack;
 pub use crate::text_fault::TextFault;
 pub use crate::text_laws::{cert_length_law, cert_text_law, vector_length_law, vector_text_law};

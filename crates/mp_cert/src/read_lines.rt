@@ -1,4 +1,4 @@
-//! The lines of a certificate or a vector, one after another.
+//! The lines of a certificate, a vector or another text of numbers, one after another.
 ghost use Rattle.std.specs.Prelude.{◌≡◌, ◌+◌, ◌<◌, ◌∷◌, [], length, Ok, IfOk, OnOk, IfErr, IfSome, IfNone};
 ghost use Rattle.mp_model.specs.Stream.{lines_of};
 ghost use Rattle.mp_cert.specs.TextMeaning.{is_passed_over};
@@ -22,14 +22,14 @@ fn is_passed_over(line: &[u8]) -> bool
 
 /// The lines of a text from some line on: the bytes that are left, and the number of their first line.
 #[derive(Drop)]
-pub(crate) struct TextLines<'a> {
-    pub(crate) rest: &'a [u8],
-    pub(crate) number: u64,
+pub struct TextLines<'a> {
+    pub rest: &'a [u8],
+    pub number: u64,
 }
 
 impl<'a> TextLines<'a> {
     /// The lines of a whole text.
-    pub(crate) fn new(text: &'a [u8]) -> TextLines<'a>
+    pub fn new(text: &'a [u8]) -> TextLines<'a>
         ensures rest { result.rest.now ≡ text.now }
         ensures number { result.number ≡ 1 }
         ensures room { HasRoom result.number result.rest.now }
@@ -83,7 +83,7 @@ impl<'a> TextLines<'a> {
 
     /// The numbers of the next line, where it has these words and then so many numbers.
     /// `TextFault::Line` names that line where it has not, and the line after the last where none is left.
-    pub(crate) fn row(
+    pub fn row(
         &mut self,
         alloc: Global,
         words: &[u8],
@@ -102,7 +102,7 @@ impl<'a> TextLines<'a> {
     }
 
     /// No line is left. `TextFault::Line` names a further line.
-    pub(crate) fn end(&mut self) -> Result<(), TextFault>
+    pub fn end(&mut self) -> Result<(), TextFault>
         requires { HasRoom self.old.number self.old.rest.now }
         ensures ok { OnOk result (rows_ahead self.old.number self.old.rest.now [] ≡ Ok []) }
         ensures fault { IfErr result (IsFaultOf (rows_ahead self.old.number self.old.rest.now [])) }
