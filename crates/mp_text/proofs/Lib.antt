@@ -1,3 +1,4 @@
+pub mod Appended
 pub mod CuttingLemmas
 pub mod Decimals
 pub mod Digits

@@ -1,3 +1,4 @@
+pub mod Appending
 pub mod Bigs
 pub mod Buffered
 pub mod Cut
