@@ -15,7 +15,7 @@ use Rattle.mp_served.proofs.Flows.{queue_at}
 use Rattle.mp_guarded.specs.Greens.{KeepsGreens, IsCounted}
 use Rattle.mp_guarded.specs.Bounds.{IsGuarded}
 use Rattle.mp_guarded.proofs.Greens.{greens_hold}
-use Rattle.mp_guarded.proofs.Places.{junction_in}
+use Rattle.mp_served.proofs.Places.{junction_in}
 
 module _ (net : Network) (ok : IsNetwork net) (guard : Guard) (guards : Guards net guard) (play : Play) (T : ℕ) (guarded : IsGuarded net guard play T) where
   keeps_greens : (j : ℕ) → has (junction_numbers net) j ≡ true → KeepsGreens guard (greens_at guard j) (junction_at net j) play.counts (stage_of play j) T

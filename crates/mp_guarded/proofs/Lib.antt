@@ -1,7 +1,6 @@
 pub mod Owed
 pub mod Greens
 pub mod Candidates
-pub mod Places
 pub mod Bounds
 pub mod Runs
 pub mod Sweeps

@@ -20,7 +20,8 @@ use Rattle.mp_guarded.specs.Greens.{KeepsGreens}
 use Rattle.mp_guarded.specs.Runs.{TakesCandidates, IsBounded}
 use Rattle.mp_guarded.proofs.Bounds.{queues_guarded}
 use Rattle.mp_guarded.proofs.Candidates.{before_in, candidate_there}
-use Rattle.mp_guarded.proofs.Places.{at_place, junction_in, range_has}
+use Rattle.mp_served.proofs.Rows.{from_none, listed}
+use Rattle.mp_served.proofs.Places.{at_place, junction_in, range_has}
 
 -- ---- what is taken is a candidate
 tests : (guard : Guard) (j : Junction) (counts : ℕ → ℕ) (t : ℕ) (account : Account) (s : ℕ) → 1 ≤ s → s ≤ length j.stages → is_candidate guard j counts t account s ≡ true → IsCandidate guard j counts t account s
@@ -190,16 +191,6 @@ module _ (net : Network) (ok : IsNetwork net) (guard : Guard) (guards : Guards n
         subst (λ x. AllByRecursion P (guarded_run_from net guard (guarded_advance net guard x (run_at s)) A)) here
             (all_states P A (suc s) (λ i lt. (let next : suc s + i ≡ s + suc i = omega arith in ap arrivals next) ∙ same (suc i) (omega arith)) (λ t le. each t (omega arith))),
       )
-
-listed : (A : List (List ℕ)) (f : ℕ → List ℕ) (s : ℕ) → ((i : ℕ) → i < length A → f (s + i) ≡ get_or A i []) → map f (range_with_len s (length A)) ≡ A
-listed [] f s same = refl
-listed (a ∷ A) f s same =
-    let place : s + 0 ≡ s = omega arith in
-    let more = listed A f (s + 1) (λ i lt. (let next : s + 1 + i ≡ s + suc i = omega arith in ap f next) ∙ same (suc i) (omega arith)) in
-    ap₂ ◌∷◌ (ap f (sym place) ∙ same 0 (omega arith)) more
-
-from_none : (A : List (List ℕ)) (i : ℕ) → i < length A → get_or A (0 + i) [] ≡ get_or A i []
-from_none A i lt = let e : 0 + i ≡ i = omega arith in ap (λ n. get_or A n []) e
 
 pub run_takes : (net : Network) → IsNetwork net → (guard : Guard) → Guards net guard → (A : List (List ℕ)) → AllByRecursion (TakesCandidates net guard) (guarded_run net guard A)
 unfolding run_at

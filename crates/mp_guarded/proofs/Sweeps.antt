@@ -1,29 +1,16 @@
 -- Sweeps rise to the least bursts.
-use Rattle.std.proofs.Common.{◌≡◌, ℕ, zero, suc, ◌+◌, ◌-◌, ◌*◌, ◌≤◌, ◌<◌, true, List, length, arith, sym, ◌∙◌, ap, subst, ⊎_elim, mul-le-mul_left}
-use Rattle.std.proofs.Math.Nat.{le_of_mul-le-mul_left, lt-mul-div-succ, div-mul-le_self}
+use Rattle.std.proofs.Common.{◌≡◌, ℕ, zero, suc, ◌+◌, ◌-◌, ◌*◌, ◌≤◌, true, List, length, arith, sym, ◌∙◌, ap, subst, mul-le-mul_left}
+use Rattle.std.proofs.Math.Nat.{le_of_mul-le-mul_left}
 use Rattle.std.specs.List.{AllByRecursion}
-use Rattle.std.proofs.lemmas.Bool.{cases_lt}
 use Rattle.mp_laws.proofs.Lists.{at_in, each_in, filter_sub, numbered}
 use Rattle.mp_laws.proofs.Sums.{sum_by-le_at}
 use Rattle.mp_model.specs.Guard.{Guard, Guards, CarryBursts, Holds, IsGuardedBound, crowd, demand_of, guarded_rate, red}
 use Rattle.mp_model.specs.Lights.{HasSurplus, HoldsUnserved}
-use Rattle.mp_model.specs.GuardedBursts.{quotient_up, least_holding, sweep, swept, AreAtRest, guarded_bound}
+use Rattle.mp_model.specs.GuardedBursts.{least_holding, sweep, swept, AreAtRest, guarded_bound}
 use Rattle.mp_model.specs.Network.{Network, movement_numbers, entry, from_of, goes_to, has, into_link, share_of, start_of, to_of}
 use Rattle.mp_model.specs.NetworkRules.{IsNetwork}
+use Rattle.mp_served.proofs.Quotients.{quotient_holds, quotient_least}
 use Rattle.mp_guarded.specs.Sweeps.{AreLeastBursts}
-
--- the quotient that is rounded up is the least number that holds
-quotient_holds : (x y : ℕ) → 1 ≤ y → x ≤ y * quotient_up x y
-quotient_holds x y some = let h = lt-mul-div-succ (x + (y - 1)) some in omega arith
-
-quotient_least : (x y n : ℕ) → 1 ≤ y → x ≤ y * n → quotient_up x y ≤ n
-quotient_least x y n some le = ⊎_elim
-    (λ (more : n < quotient_up x y).
-    let a : quotient_up x y * y ≤ x + (y - 1) = div-mul-le_self (x + (y - 1)) y in
-    let b : y * (n + 1) ≤ y * quotient_up x y = mul-le-mul_left y (omega arith) in
-    absurd (omega arith))
-    (λ (few : quotient_up x y ≤ n). few)
-    (cases_lt n (quotient_up x y))
 
 module _ (net : Network) (ok : IsNetwork net) (guard : Guard) (guards : Guards net guard) where
   unit_some : 1 ≤ net.shares * guard.denominator

@@ -1,5 +1,5 @@
 -- Sums over rows of periods, and arrivals in them.
-use Rattle.std.proofs.Common.{◌≡◌, ℕ, zero, suc, ◌+◌, ◌-◌, ◌*◌, ◌≤◌, List, [], ◌∷◌, ◌++◌, map, sum, sum_by, arith, refl, sym, ◌∙◌, ap, ap₂}
+use Rattle.std.proofs.Common.{◌≡◌, ℕ, zero, suc, ◌+◌, ◌-◌, ◌*◌, ◌≤◌, ◌<◌, List, [], ◌∷◌, ◌++◌, length, get_or, map, sum, sum_by, arith, refl, sym, ◌∙◌, ap, ap₂}
 use Rattle.std.specs.List.{range_with_len}
 use Rattle.std.proofs.lemmas.List.FromFn.{sum_by-map-range_with_len_more, length-map-range_with_len}
 use Rattle.mp_model.specs.Arrivals.{KeepsTo}
@@ -47,3 +47,14 @@ row_keeps per burst rate h g T a n le keeps =
 pub total_sums : (x : ℕ → ℕ → ℕ) (a n : ℕ) (ks : List ℕ) → total (λ t. sum_by (λ k. x k t) ks) a n ≡ sum_by (λ k. total (x k) a n) ks
 total_sums x a zero ks = sym (sum_by-zero ks)
 total_sums x a (suc n) ks = ap (λ s. s + sum_by (λ k. x k (a + n)) ks) (total_sums x a n ks) ∙ sym (sum_by-add (λ k. total (x k) a n) (λ k. x k (a + n)) ks)
+
+-- the arrivals of a list of periods, by their places
+pub listed : (A : List (List ℕ)) (f : ℕ → List ℕ) (s : ℕ) → ((i : ℕ) → i < length A → f (s + i) ≡ get_or A i []) → map f (range_with_len s (length A)) ≡ A
+listed [] f s same = refl
+listed (a ∷ A) f s same =
+    let place : s + 0 ≡ s = omega arith in
+    let more = listed A f (s + 1) (λ i lt. (let next : s + 1 + i ≡ s + suc i = omega arith in ap f next) ∙ same (suc i) (omega arith)) in
+    ap₂ ◌∷◌ (ap f (sym place) ∙ same 0 (omega arith)) more
+
+pub from_none : (A : List (List ℕ)) (i : ℕ) → i < length A → get_or A (0 + i) [] ≡ get_or A i []
+from_none A i lt = let e : 0 + i ≡ i = omega arith in ap (λ n. get_or A n []) e

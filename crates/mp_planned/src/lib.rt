@@ -1,0 +1,20 @@
+//! The laws of cyclic plans, each on a function with an empty body.
+#![tactic(auto)]
+
+ghost use Rattle.mp_planned.specs.Plans.{PlanServesLaw, PlannedBoundLaw, PlannedCase};
+
+/// In any row of periods the greens of a plan serve the rate of each movement in all but one period
+/// less than the cycle.
+pub fn plan_serves_law()
+    ensures { PlanServesLaw }
+{}
+
+/// No queue of a run by a plan is above its bound (Cruz 1991; Lindley 1952 for one movement).
+pub fn planned_bound_law()
+    ensures { PlannedBoundLaw }
+{}
+
+/// Two approaches with start queues meet the premises.
+pub fn planned_case()
+    ensures { PlannedCase }
+{}
