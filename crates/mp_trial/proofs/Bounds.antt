@@ -5,7 +5,7 @@ use Rattle.std.proofs.lemmas.Int.{ints}
 use Rattle.std.proofs.lemmas.List.Sums.{sum_by-cons}
 use Rattle.mp_model.specs.Network.{Network, Junction, movement_numbers, junction_at, junction_of_movement, share_of, flow_of, rate_before, own, has, no_junction}
 use Rattle.mp_model.specs.NetworkRules.{IsNetwork}
-use Rattle.mp_model.specs.Certificate.{Cert, Certifies, RateRule, rate_of}
+use Rattle.mp_model.specs.Certificate.{Cert, MeetsRules, RateRule, rate_of}
 use Rattle.mp_laws.proofs.PlainCertificate.{PlainMix, PlainCert, Holds, Serves, AllServe, Balances, plain_h, plain_inflow, plain_parts_with}
 use Rattle.mp_laws.proofs.Bridge.{not_negative, to_plain, plain_holds}
 use Rattle.mp_laws.proofs.Lists.{at_in}
@@ -19,16 +19,13 @@ pub record IsPlain (net : Network) (D : ℕ) (cert : Cert) : Type 0 where
   pub excess : pos (to_plain cert).e ≡ cert.e
   pub rate : (k : ℕ) → has (movement_numbers net) k ≡ true → pos (plain_h (to_plain cert) k) ≡ rate_of cert k
 
-pub plain_is : (net : Network) → IsNetwork net → (D : ℕ) (cert : Cert) → Certifies net cert → cert.d ≡ pos D → IsPlain net D cert
-plain_is net ok D cert c d =
-    let some = c.excess in
-    let sign : pos 0 ≤ℤ cert.e = omega (arith, ints, some) in
-    record {
-      holds = plain_holds net ok cert c.rules sign;
-      denominator = ap nat_abs d;
-      excess = not_negative cert.e sign;
-      rate = λ k i. ap pos (get_or-map nat_abs cert.h (k - 1) (pos 0)) ∙ not_negative (rate_of cert k) (at_in (RateRule cert) k (movement_numbers net) i c.rules.rates);
-    }
+pub plain_is : (net : Network) → IsNetwork net → (D : ℕ) (cert : Cert) → MeetsRules net cert → cert.d ≡ pos D → pos 0 ≤ℤ cert.e → IsPlain net D cert
+plain_is net ok D cert rules d sign = record {
+  holds = plain_holds net ok cert rules sign;
+  denominator = ap nat_abs d;
+  excess = not_negative cert.e sign;
+  rate = λ k i. ap pos (get_or-map nat_abs cert.h (k - 1) (pos 0)) ∙ not_negative (rate_of cert k) (at_in (RateRule cert) k (movement_numbers net) i rules.rates);
+}
 
 -- ---- the mix of a junction
 pub served_at : (net : Network) (d : ℕ) (h : ℕ → ℕ) (js : List Junction) (mixes : List PlainMix) (n : ℕ) → AllServe net d h js mixes → n < length js → (mix : PlainMix) × Serves net d h (get_or js n no_junction) mix

@@ -1,13 +1,12 @@
--- The certificate of a trial that fits certifies the network.
+-- The certificate of a trial that fits meets the rules.
 use Rattle.std.proofs.Common.{◌≡◌, ℕ, zero, suc, ◌+◌, ◌-◌, ◌*◌, ◌≤◌, Bool, true, false, cond, List, [], ◌∷◌, length, get_or, map, sum_by, pos, ◌==◌, Option, Some, None, arith, refl, sym, ◌∙◌, ap, subst, eqb-true, mul-le-mul, ⊎_elim}
 use Rattle.std.specs.List.{AllByRecursion, list_all, range_with_len}
 use Rattle.std.proofs.lemmas.Bool.{and_parts, or_cases, false≢true}
-use Rattle.std.proofs.lemmas.Int.{ints}
 use Rattle.std.proofs.lemmas.List.{length-map}
 use Rattle.std.proofs.lemmas.List.FromFn.{length-range_with_len, get_or-range_with_len}
 use Rattle.mp_model.specs.Network.{Network, movement_numbers, junction_numbers, junction_at, from_of, share_of, rate_before, into_link, has, entry}
 use Rattle.mp_model.specs.NetworkRules.{IsNetwork}
-use Rattle.mp_model.specs.Certificate.{Cert, Mix, no_mix, mix_at, int_entry, MeetsRules, Certifies}
+use Rattle.mp_model.specs.Certificate.{Cert, Mix, no_mix, mix_at, int_entry, MeetsRules}
 use Rattle.mp_laws.proofs.Lists.{at_in, in_numbers}
 use Rattle.mp_verdict.proofs.Solved.{IsSolved}
 use Rattle.mp_verdict.proofs.NaturalRules.{IsSolvedMix, meets_solved}
@@ -46,11 +45,8 @@ module _ (net : Network) (ok : IsNetwork net) (D e : ℕ) (some : 1 ≤ D) (h : 
   unfolding swept_rate
   balance_at k i = (rounding (burden net D e h k) (net.shares * net.per) (entry h k) (mul-le-mul ok.shares ok.per)).0 (omega (arith, stable k i))
 
-  meets : MeetsRules net cert
+  pub meets : MeetsRules net cert
   meets = meets_solved net ok cert D e (entry h) (length-map h pos ∙ count) (mixed_length net D h (junction_numbers net) mixes all ∙ length-range_with_len 1 (length net.junctions)) refl refl some (λ k i. entry_is h k) solved_mix balance_at
-
-  pub certifies : 1 ≤ e → Certifies net cert
-  certifies above = record { rules = meets; excess = omega (arith, ints, above) }
 
 -- ---- the trial
 stable_at : (net : Network) (D e : ℕ) (h ks : List ℕ) (k : ℕ) → list_all (λ k. swept_rate net D e h k == entry h k) ks ≡ true → has ks k ≡ true → swept_rate net D e h k ≡ entry h k
@@ -93,9 +89,9 @@ unfolding trial
 stable_trial net D e cert t = stable_from net D e cert (sweeps_before_last net D e) refl t
 
 pub fits : FitsLaw
-fits net ok D e some above cert t =
+fits net ok D e some cert t =
     let s = stable_trial net D e cert t in
     let h = rates_after net D e s.before in
     let r = fitting net D e h (junction_numbers net) [] cert s.served in
-    let c = certifies net ok D e some h (rates_count net D e s.before) (λ k i. stable_at net D e h (movement_numbers net) k s.still i) r.rest r.all above in
-    (subst (Certifies net) r.same c, sym (ap (λ (c : Cert). c.d) r.same), sym (ap (λ (c : Cert). c.e) r.same))
+    let c = meets net ok D e some h (rates_count net D e s.before) (λ k i. stable_at net D e h (movement_numbers net) k s.still i) r.rest r.all in
+    (subst (MeetsRules net) r.same c, sym (ap (λ (c : Cert). c.d) r.same), sym (ap (λ (c : Cert). c.e) r.same))

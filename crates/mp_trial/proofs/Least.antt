@@ -1,5 +1,5 @@
 -- The rates after each sweep are at most those of any certificate over the denominator whose excess is at least that of the trial.
-use Rattle.std.proofs.Common.{◌≡◌, ℕ, zero, suc, ◌+◌, ◌*◌, ◌≤◌, true, length, sum_by, arith, ap, mul-le-mul, mul-le-mul_left}
+use Rattle.std.proofs.Common.{◌≡◌, ℕ, zero, suc, ◌+◌, ◌*◌, ◌≤◌, true, length, sum_by, pos, ◌≤ℤ◌, arith, ap, mul-le-mul, mul-le-mul_left}
 use Rattle.std.proofs.lemmas.Int.{ints}
 use Rattle.mp_model.specs.Network.{Network, movement_numbers, from_of, to_of, share_of, rate_before, into_link, goes_to, has, entry}
 use Rattle.mp_model.specs.NetworkRules.{IsNetwork}
@@ -31,7 +31,7 @@ module _ (net : Network) (ok : IsNetwork net) (D e : ℕ) (p : PlainCert) (holds
 
 pub least_rates : LeastRatesLaw
 least_rates net ok D e cert c d above i k there =
-    let p = plain_is net ok D cert c d in
+    let p = plain_is net ok D cert c d (omega (arith, ints, above)) in
     let over : e ≤ (to_plain cert).e = omega (arith, ints, above, p.excess) in
     let le = least net ok D e (to_plain cert) p.holds p.denominator over i k there in
     let r = p.rate k there in

@@ -38,11 +38,12 @@ abbrev AllBelow : Network → ℕ → ℕ → Type 0
 AllBelow net D hi = (other : Cert) → Certifies net other → other.d ≡ pos D → other.e <ℤ pos hi
 
 below_too_great : (net : Network) → IsNetwork net → 1 ≤ length net.movements → (D : ℕ) → AllBelow net D (too_great net D)
-below_too_great net ok some D cert c d =
-    let least = least_at net.movements some in
+below_too_great net ok motion D cert c d =
+    let least = least_at net.movements motion in
     let k = suc least.at in
     let there : has (movement_numbers net) k ≡ true = at_number (λ k. has (movement_numbers net) k ≡ true) (length net.movements) least.at least.inside (all_in (movement_numbers net)) in
-    let p = plain_is net ok D cert c d in
+    let some = c.excess in
+    let p = plain_is net ok D cert c.rules d (omega (arith, ints, some)) in
     let low = rate_least net ok (to_plain cert) p.holds k there in
     let most = rate_most net ok (to_plain cert) p.holds k there in
     let flow : flow_of net k ≤ least_flow net.movements = subst (λ (i : ℕ). (get_or net.movements i no_movement).flow ≤ least_flow net.movements) (sym (back_one least.at)) least.most in
@@ -78,7 +79,7 @@ found_holds net D lo hi cert l b = record {
 
 module _ (net : Network) (ok : IsNetwork net) (D : ℕ) (some : 1 ≤ D) where
   fitted : (e hi : ℕ) (cert : Cert) → 1 ≤ e → trial net D e ≡ Fits cert → AllBelow net D hi → IsBetween net D e hi cert
-  fitted e hi cert one t below = let f = fits net ok D e some one cert t in record { certifies = f.0; denominator = f.1; excess = f.2; below = below }
+  fitted e hi cert one t below = let f = fits net ok D e some cert t in let is = f.2 in record { certifies = record { rules = f.0; excess = omega (arith, ints, is, one) }; denominator = f.1; excess = f.2; below = below }
 
   halved_holds : (halvings lo hi : ℕ) (cert : Cert) → 1 ≤ lo → hi - lo ≤ halvings + 1 → IsBetween net D lo hi cert → HoldsOver net D (halved net D halvings lo hi cert)
   unfolding halved
@@ -92,7 +93,7 @@ module _ (net : Network) (ok : IsNetwork net) (D : ℕ) (some : 1 ≤ D) where
       let down = below_high lo hi between in
       after_holds net D m (trial net D m) _ _
       (λ c fit. halved_holds halvings m hi c (omega (arith, one, up)) (omega (arith, l, up, down, between)) (fitted m hi c (omega (arith, one, up)) fit b.below))
-      (λ not_fit. halved_holds halvings lo m cert one (omega (arith, l, up, down, between)) (record { certifies = b.certifies; denominator = b.denominator; excess = b.excess; below = λ other c d. unfit net ok D m not_fit other c d }))))
+      (λ not_fit. halved_holds halvings lo m cert one (omega (arith, l, up, down, between)) (record { certifies = b.certifies; denominator = b.denominator; excess = b.excess; below = λ other c d. unfit net ok D m not_fit other c.rules d }))))
       (λ f. (let near = ltb-false (lo + 1) hi f in found_holds net D lo hi cert near b))
 
 pub searched : SearchLaw
@@ -100,4 +101,4 @@ unfolding scaled
 searched net ok motion D some =
     after_holds net D 1 (trial net D 1) _ NoneAt
     (λ cert fit. halved_holds net ok D some (too_great net D) 1 (too_great net D) cert (omega arith) (omega arith) (fitted net ok D some 1 (too_great net D) cert (omega arith) fit (below_too_great net ok motion D)))
-    (λ not_fit cert c d. (let l = unfit net ok D 1 not_fit cert c d in let one = c.excess in omega (arith, ints, l, one)))
+    (λ not_fit cert c d. (let l = unfit net ok D 1 not_fit cert c.rules d in let one = c.excess in omega (arith, ints, l, one)))

@@ -64,14 +64,14 @@ module _ (net : Network) (ok : IsNetwork net) (D e : ℕ) (p : PlainCert) (holds
 
 pub unfit : UnfitLaw
 unfit net ok D e t cert c d =
-    let p = plain_is net ok D cert c d in
     by_lt_z cert.e (pos e) (λ l. l) (λ (l : pos e ≤ℤ cert.e).
+    let p = plain_is net ok D cert c d (omega (arith, ints, l)) in
     let over = p.excess in
     absurd (not_unfit net ok D e (to_plain cert) p.holds p.denominator (omega (arith, ints, l, over)) t))
 
 pub easier : EasierLaw
-easier net ok D e some cert t smaller one le unfit_there =
-    let f = fits net ok D e some (omega (arith, one, le)) cert t in
+easier net ok D e some cert t smaller le unfit_there =
+    let f = fits net ok D e some cert t in
     let l = unfit net ok D smaller unfit_there cert f.0 f.1 in
     let s = f.2 in
     omega (arith, ints, l, s, le)
