@@ -33,7 +33,7 @@ module _ (net : Network) where
       (entry_at (HasStages net) net.junctions no_junction j stages h))
 
   -- the junction of a movement is the one where it stands
-  holder_of : AllByRecursion (IsPlaced net) (movement_numbers net) → (k m : ℕ) → has (movement_numbers net) k ≡ true → m < length net.junctions → stands_in (at m) k ≡ true → junction_of_movement net k ≡ 1 + m
+  pub holder_of : AllByRecursion (IsPlaced net) (movement_numbers net) → (k m : ℕ) → has (movement_numbers net) k ≡ true → m < length net.junctions → stands_in (at m) k ≡ true → junction_of_movement net k ≡ 1 + m
   holder_of placed k m there within stands =
       let once = all_each (IsPlaced net) (movement_numbers net) k placed there in
       holder_at 1 net.junctions k m within stands (λ i below. elim (cases_Bool (stands_in (at i) k)) [

@@ -32,6 +32,11 @@ pub trial_endless : (net : Network) (D e : ℕ) (rates : List ℕ) → EndsSweep
 unfolding trial
 trial_endless net D e rates s = ap (by_sweeps net D e) s
 
+pub trial_same : (net : Network) (D d e : ℕ) (result : Result (Option Cert) ScaleFault) → d ≡ D → GivesTrial e result (trial net d e) → GivesTrial e result (trial net D e)
+trial_same net D d e result is g = subst (λ (n : ℕ). GivesTrial e result (trial net n e)) is g
+
+pub ruleset trying = (trial_same)
+
 -- ---- the halving
 pub record Halving (net : Network) (D limit : ℕ) (first : model.Cert) (low high : ℕ) (cert : model.Cert) : Type 0 where
   pub halvings : ℕ
@@ -140,7 +145,4 @@ search_none net ok D some (Ok (Some cert)) g = tt
 search_none net ok D some (Ok None) g = subst (HoldsOver net D) g (searched net ok.network (omega (arith, ok.range.movements)) D some)
 search_none net ok D some (Err f) g = tt
 
-pub search_same : (net : Network) (D d : ℕ) (result : Result (Option Cert) ScaleFault) → d ≡ D → GivesScaled result (scaled net d) → GivesScaled result (scaled net D)
-search_same net D d result e g = subst (λ (n : ℕ). GivesScaled result (scaled net n)) e g
-
-pub ruleset searching = (search_same, search_found, search_none)
+pub ruleset searching = (search_found, search_none)

@@ -172,17 +172,17 @@ zeros_are : (a n : ℕ) → replicate {A = ℕ} n 0 ≡ map (λ k. 0) (range_wit
 zeros_are a zero = refl
 zeros_are a (suc n) = ap (λ t. 0 ∷ t) (zeros_are (a + 1) n)
 
-find_here : (p : ℕ → Bool) (i n : ℕ) → i < n → p i ≡ true → find p (range_with_len i (n - i)) ≡ Some i
+pub find_here : (p : ℕ → Bool) (i n : ℕ) → i < n → p i ≡ true → find p (range_with_len i (n - i)) ≡ Some i
 find_here p i n h e =
     let more : n - i ≡ suc (n - (i + 1)) = omega arith in
     ap (λ m. find p (range_with_len i m)) more ∙ ap (λ b. cond b (Some i) (find p (range_with_len (i + 1) (n - (i + 1))))) e
 
-find_past : (p : ℕ → Bool) (i n : ℕ) → i < n → p i ≡ false → find p (range_with_len i (n - i)) ≡ find p (range_with_len (i + 1) (n - (i + 1)))
+pub find_past : (p : ℕ → Bool) (i n : ℕ) → i < n → p i ≡ false → find p (range_with_len i (n - i)) ≡ find p (range_with_len (i + 1) (n - (i + 1)))
 find_past p i n h e =
     let more : n - i ≡ suc (n - (i + 1)) = omega arith in
     ap (λ m. find p (range_with_len i m)) more ∙ ap (λ b. cond b (Some i) (find p (range_with_len (i + 1) (n - (i + 1))))) e
 
-find_end : (p : ℕ → Bool) (i n : ℕ) → n ≤ i → find p (range_with_len i (n - i)) ≡ None
+pub find_end : (p : ℕ → Bool) (i n : ℕ) → n ≤ i → find p (range_with_len i (n - i)) ≡ None
 find_end p i n h = let none : n - i ≡ 0 = omega arith in ap (λ m. find p (range_with_len i m)) none
 
 pub record Sweeping (net : Network) (D e i : ℕ) (now : List ℕ) : Type 0 where

@@ -24,8 +24,8 @@ fn zeros(alloc: Global, count: u16) -> Result<Vec<u64>, AllocError>
     Ok(numbers)
 }
 
-/// The trial of the excess `e`: the certificate with which it fits, or none where it is unfit.
-fn try_excess(
+/// The trial of the excess `e`, in buffers for the rates and for what comes to the links.
+fn run_trial(
     alloc: Global,
     net: &Net,
     d: u64,
@@ -47,6 +47,28 @@ fn try_excess(
     }
 }
 
+/// The trial of the excess `e` over the denominator `d`: the least rates that carry what comes to each movement and the
+/// excess, with a mix for each junction that serves them, or none exactly where the trial is unfit.
+///
+/// `Sweeps` comes exactly where the trial ends neither way within its limit of sweeps, `Overflow` and `PivotLimit`
+/// exactly where a junction ends it so. `NoMemory` comes only where memory ran out.
+#[tactic(auto, using(crate::proofs::Searching::trying))]
+pub fn try_excess(alloc: Global, net: &Net, d: u32, e: u64) -> Result<Option<Cert>, ScaleFault>
+    requires denominator { d ≤ 10 ^ 9 }
+    requires excess { e ≤ 10 ^ 12 }
+    ensures { GivesTrial e result (trial net.now d e) }
+{
+    // A network's share total comes with what its rules say.
+    let _shares = net.shares();
+    let (Ok(mut rates), Ok(mut brought)) = (
+        zeros(alloc, net.movements()),
+        zeros(alloc, net.links()),
+    ) else {
+        return Err(ScaleFault::NoMemory);
+    };
+    run_trial(alloc, net, u64::from(d), e, &mut rates, &mut brought)
+}
+
 /// The least flow of the movements.
 #[tactic(auto, using(crate::proofs::Leasts::leasting))]
 fn least_flow(net: &Net) -> u64
@@ -62,31 +84,20 @@ fn least_flow(net: &Net) -> u64
 }
 
 /// The least excess that is too great without a trial.
-fn too_great(net: &Net, d: u64) -> u64
+fn too_great(net: &Net, d: u32) -> u64
     requires acceptable { IsAcceptable net.now }
     requires denominator { d ≤ 10 ^ 9 }
     ensures value { result ≡ too_great net.now d }
     ensures few { (1 ≤ result) × (result ≤ 10 ^ 12 + 1) }
 {
-    d * least_flow(net) + 1
+    u64::from(d) * least_flow(net) + 1
 }
 
 /// The certificate of the greatest excess below `limit` that fits, where that of 1 is given.
 #[tactic(auto, using(crate::proofs::Searching::halving))]
-fn halve(
-    alloc: Global,
-    net: &Net,
-    d: u64,
-    limit: u64,
-    first: Cert,
-    rates: &mut [u64],
-    brought: &mut [u64],
-) -> Result<Cert, ScaleFault>
-    requires acceptable { IsAcceptable net.now }
+fn halve(alloc: Global, net: &Net, d: u32, limit: u64, first: Cert) -> Result<Cert, ScaleFault>
     requires denominator { d ≤ 10 ^ 9 }
     requires limit { (1 ≤ limit) × (limit ≤ 10 ^ 12 + 1) }
-    requires size { length rates.old ≡ length net.now.movements }
-    requires room { length brought.old ≡ length net.now.links }
     ensures { GivesFound result (halved net.now d limit 1 limit (cert_of first)) }
 {
     let mut cert = first;
@@ -94,7 +105,7 @@ fn halve(
     let mut high = limit;
     while low + 1 < high {
         let middle = (low + high) / 2;
-        match try_excess(alloc, net, d, middle, rates, brought) {
+        match try_excess(alloc, net, d, middle) {
             Ok(Some(better)) => {
                 cert = better;
                 low = middle;
@@ -107,21 +118,15 @@ fn halve(
 }
 
 /// The search over the denominator `d`.
-fn search(alloc: Global, net: &Net, d: u64) -> Result<Option<Cert>, ScaleFault>
+fn search(alloc: Global, net: &Net, d: u32) -> Result<Option<Cert>, ScaleFault>
     requires acceptable { IsAcceptable net.now }
     requires denominator { d ≤ 10 ^ 9 }
     ensures { GivesScaled result (scaled net.now d) }
 {
-    let (Ok(mut rates), Ok(mut brought)) = (
-        zeros(alloc, net.movements()),
-        zeros(alloc, net.links()),
-    ) else {
-        return Err(ScaleFault::NoMemory);
-    };
-    match try_excess(alloc, net, d, 1, &mut rates, &mut brought) {
+    match try_excess(alloc, net, d, 1) {
         Ok(Some(first)) => {
             let limit = too_great(net, d);
-            match halve(alloc, net, d, limit, first, &mut rates, &mut brought) {
+            match halve(alloc, net, d, limit, first) {
                 Ok(cert) => Ok(Some(cert)),
                 Err(fault) => Err(fault),
             }
@@ -145,5 +150,5 @@ pub fn greatest(alloc: Global, net: &Net, d: u32) -> Result<Option<Cert>, ScaleF
 {
     // A network's share total comes with what its rules say.
     let _shares = net.shares();
-    search(alloc, net, u64::from(d))
+    search(alloc, net, d)
 }

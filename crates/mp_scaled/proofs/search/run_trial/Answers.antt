@@ -2,7 +2,7 @@ use Rattle.std.proofs.Common.{subst, sym, rules}
 use Rattle.mp_trial.specs.Trials.{Trial}
 use Rattle.mp_scaled.specs.Giving.{GivesTrial}
 use Rattle.mp_scaled.proofs.Searching.{trial_above, trial_stable, trial_endless}
-use Rattle.mp_scaled.proofs.search.try_excess.Goals as goal
+use Rattle.mp_scaled.proofs.search.run_trial.Goals as goal
 
 pub returns-in-Above : goal.returns-in-Above
 returns-in-Above c = trial_above c.args.net.now c.args.d c.args.e c.sweep_all.new.rates c.in-Above.ensures
