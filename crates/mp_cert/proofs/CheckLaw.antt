@@ -21,7 +21,7 @@ pub all_join : {X : Type 0} (P : X → Type 0) (xs ys : List X) → AllByRecursi
 all_join P [] ys a b = b
 all_join P (x ∷ xs) ys a b = (a.0, all_join P xs ys a.1 b)
 
-all_unmap : {X Y : Type 0} (P : Y → Type 0) (f : X → Y) (xs : List X) → AllByRecursion P (map f xs) → AllByRecursion (λ x. P (f x)) xs
+pub all_unmap : {X Y : Type 0} (P : Y → Type 0) (f : X → Y) (xs : List X) → AllByRecursion P (map f xs) → AllByRecursion (λ x. P (f x)) xs
 all_unmap P f [] a = tt
 all_unmap P f (x ∷ xs) a = (a.0, all_unmap P f xs a.1)
 

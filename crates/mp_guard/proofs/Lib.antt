@@ -1,0 +1,5 @@
+pub mod CheckLemmas
+pub mod PrintLemmas
+pub mod ReadLemmas
+pub mod RuleLemmas
+pub mod TextLemmas

@@ -1,0 +1,4 @@
+pub mod Checking
+pub mod GuardText
+pub mod TextLaws
+pub mod Views

@@ -1,0 +1,17 @@
+//! Guards: their text, their rules, and the bursts and bounds that follow from them.
+#![tactic(auto)]
+
+mod checking;
+mod fault;
+mod guard;
+mod print;
+mod read;
+mod rules;
+mod text_laws;
+
+pub use crate::checking::check;
+pub use crate::fault::{GuardFault, PutFault};
+pub use crate::guard::Guard;
+pub use crate::print::{guard_text, put_guard};
+pub use crate::read::read_guard;
+pub use crate::text_laws::{guard_length_law, guard_text_law};
