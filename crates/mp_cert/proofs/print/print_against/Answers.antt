@@ -1,12 +1,12 @@
-use Rattle.std.proofs.Common.{[], ◌∷◌, ◌++◌, refl}
-use Rattle.std.specs.Prelude.{codes}
-use Rattle.std.proofs.lemmas.Result.{err_from_is_err_and}
-use Rattle.mp_cert.specs.Texts.{line_with, vector_text}
-use Rattle.mp_edge.proofs.Puts.{put_none, put_fails}
+use Rattle.mp_text.proofs.Appended.{append_none, append_then, append_whole}
 use Rattle.mp_cert.proofs.print.print_against.Goals as goal
 
-pub returns-in_err-put_line-clause-bytes : goal.returns-in_err-put_line-clause-bytes
-returns-in_err-put_line-clause-bytes g c =
-    let p = err_from_is_err_and c.from_residual.result c.from_residual.ensures.1 in
-    let held = g.K.Sink.held in
-    rw p.1 (put_fails (held c.args.out.now) (held c.args.out.now) (held c.put_line.new.out) [] (line_with (codes "vector 1") [] ++ 10 ∷ []) (vector_text c.args.against.now.p) (put_none (held c.args.out.now)) c.in_err-put_line.ensures.bytes ((line_with (codes "p") c.args.against.now.p ++ 10 ∷ []) ++ [], refl))
+pub returns-clause-bytes : goal.returns-clause-bytes
+returns-clause-bytes g c =
+    let lines = append_then c.push_line.ensures (append_then (rw c.as_slice.ensures at c.push_line-2.ensures) append_none) in
+    (append_whole c.end.result (rw c.new-text.ensures at lines) c.end.ensures.appends c.end.ensures.ends).0
+
+pub returns-clause-cause : goal.returns-clause-cause
+returns-clause-cause g c =
+    let lines = append_then c.push_line.ensures (append_then (rw c.as_slice.ensures at c.push_line-2.ensures) append_none) in
+    (append_whole c.end.result (rw c.new-text.ensures at lines) c.end.ensures.appends c.end.ensures.ends).1
