@@ -1,5 +1,5 @@
 // Regions of cells.
-ghost use Rattle.std.specs.Prelude.{◌≡◌, ◌≤◌, ◌<◌, ◌+◌, ◌↔◌, length, pos, replicate, slice_index_or, IfOk, IfSome, IsNone, MatchOption};
+ghost use Rattle.std.specs.Prelude.{◌≡◌, ◌≤◌, ◌<◌, ◌+◌, ◌↔◌, length, pos, replicate, slice_index_or, slice_set, IfOk, IfSome, IsNone, MatchOption};
 ghost use Rattle.mp_region.specs.Cells.{Cells, Extent, IsWithin, ShareNoCell, part_of, put};
 
 use crate::memory::NoMemory;
@@ -27,6 +27,9 @@ impl Model for Region {
 }
 
 impl Region {
+    ghost use Rattle.std.specs.Borrow.{sem};
+    ghost use Rattle.mp_region.specs.Lending.{LendsCells};
+
     /// A region of so many cells, which are all 0, and of which none is used. `NoMemory` comes only
     /// where memory runs out.
     pub fn new(alloc: Global, cells: usize) -> Result<Region, NoMemory>
@@ -67,7 +70,7 @@ impl Region {
         requires within { IsWithin self.old span.now }
         requires known { i < span.now.len }
         ensures value { self.new ≡ put self.old span.now i value }
-        ensures read { slice_index_or (part_of self.new span.now) i (pos 0) ≡ value }
+        ensures written { part_of self.new span.now ≡ slice_set (part_of self.old span.now) i value }
         ensures others { (other : Extent) → ShareNoCell span.now other → part_of self.new other ≡ part_of self.old other }
     {
         self.cells[span.at() + i] = value;
@@ -80,6 +83,16 @@ impl Region {
         ensures len { length result.now ≡ span.now.len }
     {
         &self.cells[span.at()..span.at() + span.len()]
+    }
+
+    /// All cells, to be written. Where one span is to be read while another is written, `split_at_mut`
+    /// cuts them apart at the end of a span.
+    pub fn cells_mut(&mut self) -> &mut [i128]
+        ensures* lends { sem 𝓛 (LendsCells self.entry result) }
+        ensures cells { result.now ≡ self.old.cells }
+        ensures len { length result.now ≡ length self.old.cells }
+    {
+        &mut self.cells
     }
 
     /// Swaps the contents of two spans of equal lengths that share no cell. It exchanges the two
