@@ -1,9 +1,10 @@
 -- A period from the phases is the step of each state that the run stands at.
-use Rattle.std.proofs.Common.{◌≡◌, ◌≤◌, ◌<◌, ℕ, zero, suc, ◌+◌, ◌-◌, ◌*◌, ◌%◌, List, None, [], ◌∷◌, length, map, replicate, sum, sum_by, pos, arith, refl, sym, ◌∙◌, ap, subst}
-use Rattle.std.specs.List.{AllByRecursion, range_with_len}
+use Rattle.std.proofs.Common.{◌≡◌, ◌≤◌, ◌<◌, ℕ, zero, suc, ◌+◌, ◌-◌, ◌*◌, ◌%◌, List, None, [], ◌∷◌, length, map, replicate, sum, sum_by, pos, ℤ, get_or, arith, refl, sym, ◌∙◌, ap, subst}
+use Rattle.std.specs.List.{All, AllByRecursion, range_with_len}
+use Rattle.std.proofs.lemmas.List.Elements.{All-from_get_or}
 use Rattle.std.proofs.Math.Nat.{mod-add-mod, zero-mod}
 use Rattle.std.proofs.lemmas.List.{length-map, length-replicate}
-use Rattle.std.proofs.lemmas.List.FromFn.{length-range_with_len}
+use Rattle.std.proofs.lemmas.List.FromFn.{length-range_with_len, fill_by_all}
 use Rattle.std.proofs.lemmas.List.Sums.{sum-map}
 use Rattle.mp_model.specs.Network.{Network, movement_numbers, link_numbers, link_at, numbers_to, from_of, start_of, entry}
 use Rattle.mp_model.specs.NetworkRules.{IsNetwork, IsInRange}
@@ -98,6 +99,14 @@ zeros : (z a n : ℕ) → replicate n z ≡ map (λ k. z) (range_with_len a n)
 zeros z a zero = refl
 zeros z a (suc n) = ap (λ xs. z ∷ xs) (zeros z (a + 1) n)
 
+shifted : (f : ℕ → ℤ) (a n : ℕ) → map (λ j. f (j + 1)) (range_with_len a n) ≡ map f (range_with_len (a + 1) n)
+shifted f a zero = refl
+shifted f a (suc n) = ap (λ xs. f (a + 1) ∷ xs) (shifted f (a + 1) n)
+
+-- a list by its places, from 0, where the numbers go from 1
+pub from_places : (f : ℕ → ℤ) (xs : List ℤ) (n : ℕ) → length xs ≡ n → ((j : ℕ) → j < n → get_or xs j (pos 0) ≡ f (j + 1)) → xs ≡ map f (numbers_to n)
+from_places f xs n e h = fill_by_all (λ j. f (j + 1)) xs n (pos 0) e h ∙ shifted f 0 n
+
 pub start_naturals : (f : ℕ → ℕ) (ks : List ℕ) → naturals (map (λ k. pos (f k)) ks) ≡ map f ks
 start_naturals f [] = refl
 start_naturals f (k ∷ ks) = ap (λ xs. f k ∷ xs) (start_naturals f ks)
@@ -139,3 +148,10 @@ opens net ok qs ps ls entered splits buckets q t p v s b = (
 pub zeros_positive : (n : ℕ) → NoneNegative (replicate n (pos 0))
 zeros_positive zero = refl
 zeros_positive (suc n) = ap (λ xs. pos 0 ∷ xs) (zeros_positive n)
+
+pub zeros_naturals : (n : ℕ) → naturals (replicate n (pos 0)) ≡ replicate n 0
+zeros_naturals zero = refl
+zeros_naturals (suc n) = ap (λ xs. 0 ∷ xs) (zeros_naturals n)
+
+pub zeros_few : (most n : ℕ) → 0 < most → All (λ x. x < most) (replicate n 0)
+zeros_few most n h = All-from_get_or (λ x. x < most) (replicate n 0) 0 (λ i lt. omega (arith, h, get_or-replicate n i))

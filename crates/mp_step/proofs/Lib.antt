@@ -9,3 +9,4 @@ pub mod Conserving
 pub mod Greens
 pub mod Closing
 pub mod Following
+pub mod Sides

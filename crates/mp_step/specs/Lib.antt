@@ -6,3 +6,6 @@ pub mod Settled
 pub mod TrafficView
 pub mod StateView
 pub mod Taken
+pub mod Halves
+pub mod Held
+pub mod SpansView

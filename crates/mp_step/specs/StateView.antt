@@ -11,4 +11,4 @@ standing_of s = stands s.traffic
 -- Its traffic is sound, and there is a place for what each movement passes.
 pub record IsKept (s : Inside) : Type 0 where
   pub traffic : IsSound s.traffic
-  pub passes : length s.passes.items ≡ length s.traffic.queues.items
+  pub passes : length s.passes.items ≡ length s.traffic.spans.queues

@@ -3,8 +3,10 @@ ghost use Rattle.std.specs.Prelude.{◌≡◌, ◌≤◌, ◌<◌, ◌+◌, ◌*
 ghost use Rattle.std.specs.List.{AllByRecursion};
 ghost use Rattle.mp_model.specs.Network.{Network, link_numbers, link_at, entry};
 ghost use Rattle.mp_model.specs.Arrivals.{HasCounts, next_level};
+ghost use Rattle.mp_press.specs.Queues.{naturals};
 ghost use Rattle.mp_step.specs.BucketLevels.{buckets_of, level_then, first_above, AreWithin, IsRoom};
 
+use crate::cells::{level_of, put_number};
 use mp_feed::{Above, Bucket, NoMemory};
 use mp_net::{LinkNo, Net};
 use std::alloc::{AllocError, Global};
@@ -28,38 +30,43 @@ fn level_after(bucket: &Bucket, level: u64, came: u64) -> Option<u64>
 pub fn levels_after(
     net: &Net,
     buckets: &[Bucket],
-    levels: &[u64],
+    levels: &[i128],
     arrivals: &[u64],
-    next: &mut [u64],
+    next: &mut [i128],
 ) -> Option<LinkNo>
     requires counts { HasCounts net.now arrivals.now }
     requires digits { All (λ a. a < 10 ^ 9) arrivals.now }
     requires buckets { buckets.now ≡ buckets_of net.now }
     requires levels { length levels.now ≡ length net.now.links }
-    requires within { AllByRecursion (λ l. entry levels.now l ≤ net.now.per * (link_at net.now l).burst) (link_numbers net.now) }
-    requires next_within { AreWithin buckets.now next.old }
-    ensures next_within { AreWithin buckets.now next.new }
-    ensures above { result ≡ first_above net.now (entry levels.now) arrivals.now }
-    ensures value { IsNone result → next.new ≡ map (level_then net.now (entry levels.now) arrivals.now) (link_numbers net.now) }
+    requires fits { All (λ level. level < 2 ^ 64) (naturals levels.now) }
+    requires within { AllByRecursion (λ l. entry (naturals levels.now) l ≤ net.now.per * (link_at net.now l).burst) (link_numbers net.now) }
+    requires next_within { AreWithin buckets.now (naturals next.old) }
+    ensures next_within { AreWithin buckets.now (naturals next.new) }
+    ensures above { result ≡ first_above net.now (entry (naturals levels.now)) arrivals.now }
+    ensures value { IsNone result → naturals next.new ≡ map (level_then net.now (entry (naturals levels.now)) arrivals.now) (link_numbers net.now) }
 {
     let fed = net.fed();
     for i in 0..fed.len() {
         let at = usize::from(fed[i]) - 1;
-        let Some(level) = level_after(&buckets[at], levels[at], arrivals[i]) else {
+        let before = level_of(levels, fed[i]);
+        let Some(level) = level_after(&buckets[at], before, arrivals[i]) else {
             return Some(fed[i]);
         };
-        next[at] = level;
+        put_number(next, fed[i], u128::from(level));
     }
     None
 }
 
-/// The greatest count of arrivals that the bucket at this place takes.
-pub fn room_at(buckets: &[Bucket], levels: &[u64], at: usize) -> u64
-    requires within { AreWithin buckets.now levels.now }
-    requires known { at < length buckets.now }
-    ensures { (net : Network) → buckets.now ≡ buckets_of net → IsRoom net (entry levels.now) (at + 1) result }
+/// The greatest count of arrivals that the bucket of a link takes.
+pub fn room_of(buckets: &[Bucket], levels: &[i128], l: LinkNo) -> u64
+    requires within { AreWithin buckets.now (naturals levels.now) }
+    requires fits { All (λ level. level < 2 ^ 64) (naturals levels.now) }
+    requires known { (1 ≤ l) × (l ≤ length buckets.now) }
+    ensures { (net : Network) → buckets.now ≡ buckets_of net → IsRoom net (entry (naturals levels.now)) l result }
 {
-    buckets[at].at_level(levels[at]).room()
+    buckets[usize::from(l) - 1]
+        .at_level(level_of(levels, l))
+        .room()
 }
 
 fn add_bucket(buckets: &mut Vec<Bucket>, bucket: Bucket) -> Result<(), AllocError>

@@ -1,10 +1,13 @@
 //! Where a run stands, and one period of it.
 #![tactic(auto)]
 
+mod cells;
+mod halves;
 mod laws;
 mod levels;
 mod moving;
 mod passing;
+mod spans;
 mod starts;
 mod state;
 mod traffic;

@@ -9,6 +9,7 @@ ghost use Rattle.mp_press.specs.Written.{IsAmong, written};
 ghost use Rattle.mp_step.specs.Settled.{settled};
 ghost use Rattle.mp_step.specs.Standing.{moved, received, splits_of, shares_in};
 
+use crate::cells::{phase_of, put_number};
 use mp_feed::Splitter;
 use mp_net::{LinkNo, MovementNo, Net};
 use mp_press::queue_of;
@@ -42,15 +43,6 @@ fn gather(net: &Net, passes: &[u32], came: u64, l: LinkNo) -> u64
     came + sum
 }
 
-fn put_queue(next: &mut [i128], k: MovementNo, queue: u128)
-    requires known { (1 ≤ k) × (k ≤ length next.old) }
-    requires fits { queue < 2 ^ 127 }
-    ensures value { naturals next.new ≡ slice_set (naturals next.old) (k - 1) queue }
-    ensures some { NoneNegative next.old → NoneNegative next.new }
-{
-    next[usize::from(k) - 1] = queue as i128;
-}
-
 // What is left in the queue of a movement once it has passed.
 fn staying(queues: &[i128], passes: &[u32], k: MovementNo) -> u128
     requires known { (1 ≤ k) × (k ≤ length queues.now) }
@@ -72,7 +64,7 @@ fn carry(queues: &[i128], passes: &[u32], ks: &[MovementNo], next: &mut [i128])
     ensures some { NoneNegative next.old → NoneNegative next.new }
 {
     for k in ks {
-        put_queue(next, *k, staying(queues, passes, *k));
+        put_number(next, *k, staying(queues, passes, *k));
     }
 }
 
@@ -88,7 +80,7 @@ fn settle(queues: &[i128], passes: &[u32], ks: &[MovementNo], parts: &[u64], nex
 {
     for i in 0..ks.len() {
         let k = ks[i];
-        put_queue(next, k, staying(queues, passes, k) + u128::from(parts[i]));
+        put_number(next, k, staying(queues, passes, k) + u128::from(parts[i]));
     }
 }
 
@@ -137,19 +129,20 @@ pub fn move_all(
     net: &Net,
     splits: &[Splitter],
     arrivals: &[u64],
-    phases: &[u32],
+    phases: &[i128],
     queues: &[i128],
     passes: &[u32],
     parts: &mut [u64],
     next: &mut [i128],
-    next_phases: &mut [u32],
+    next_phases: &mut [i128],
 ) -> u64
     requires acceptable { IsAcceptable net.now }
     requires splits { map (λ split. split.shares) splits.now ≡ splits_of net.now }
     requires arrivals { HasCounts net.now arrivals.now }
     requires digits { All (λ a. a < 10 ^ 9) arrivals.now }
     requires phases { length phases.now ≡ length net.now.links }
-    requires phase_in { All (λ phase. phase < net.now.shares) phases.now }
+    requires phase_in { All (λ phase. phase < net.now.shares) (naturals phases.now) }
+    requires phase_fits { All (λ phase. phase < 2 ^ 32) (naturals phases.now) }
     requires len { length queues.now ≡ length net.now.movements }
     requires counts { AreCounts queues.now }
     requires size { length passes.now ≡ length net.now.movements }
@@ -159,26 +152,28 @@ pub fn move_all(
     requires room { length parts.old ≡ length net.now.movements }
     ensures value { result ≡ sum_by (arrivals_of net.now arrivals.now) (link_numbers net.now) }
     ensures limit { result ≤ 2 ^ 37 }
-    ensures queues { naturals next.new ≡ map (moved net.now arrivals.now (entry phases.now) (entry (naturals queues.now)) (entry passes.now)) (movement_numbers net.now) }
+    ensures queues { naturals next.new ≡ map (moved net.now arrivals.now (entry (naturals phases.now)) (entry (naturals queues.now)) (entry passes.now)) (movement_numbers net.now) }
     ensures some { NoneNegative next.old → NoneNegative next.new }
-    ensures phases { next_phases.new ≡ map (λ l. (entry phases.now l + received net.now arrivals.now (entry passes.now) l) % net.now.shares) (link_numbers net.now) }
+    ensures phases { naturals next_phases.new ≡ map (λ l. (entry (naturals phases.now) l + received net.now arrivals.now (entry passes.now) l) % net.now.shares) (link_numbers net.now) }
 {
     let mut sum = 0;
     for i in 0..net.links() {
         let at = usize::from(i);
         let came = arrivals_on(net, arrivals, i + 1);
         sum += came;
-        next_phases[at] = move_link(
+        let phase = phase_of(phases, i + 1);
+        let after = move_link(
             net,
             &splits[at],
             i + 1,
             came,
-            phases[at],
+            phase,
             queues,
             passes,
             parts,
             next,
         );
+        put_number(next_phases, i + 1, u128::from(after));
     }
     sum
 }

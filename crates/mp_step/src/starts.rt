@@ -1,26 +1,18 @@
 //! The queues at which a run starts.
-ghost use Rattle.std.specs.Prelude.{◌≡◌, ◌≤◌, ◌*◌, ◌^◌, ◌++◌, [], ◌∷◌, IfOk, OnOk, map, pos, sum_by};
+ghost use Rattle.std.specs.Prelude.{◌≡◌, ◌≤◌, ◌*◌, ◌^◌, length, map, pos, sum_by};
 ghost use Rattle.mp_model.specs.Network.{movement_numbers, start_of};
 
 use mp_net::Net;
-use std::alloc::{AllocError, Global};
 
-fn push_queue(queues: &mut Vec<i128>, queue: u32) -> Result<(), AllocError>
-    ensures { OnOk result (queues.new.items ≡ queues.old.items ++ pos queue ∷ []) }
+/// Writes the start queue of each movement.
+pub fn start_queues(net: &Net, queues: &mut [i128])
+    requires { length queues.old ≡ length net.now.movements }
+    ensures { queues.new ≡ map (λ k. pos (start_of net.now k)) (movement_numbers net.now) }
 {
-    queues.push(queue as i128)?;
-    Ok(())
-}
-
-/// The start queue of each movement.
-pub fn start_queues(alloc: Global, net: &Net) -> Result<Vec<i128>, AllocError>
-    ensures { IfOk result (λ v. v.items ≡ map (λ k. pos (start_of net.now k)) (movement_numbers net.now)) }
-{
-    let mut queues = Vec::with_capacity(alloc, usize::from(net.movements()))?;
+    let _ = net.shares();
     for i in 0..net.movements() {
-        push_queue(&mut queues, net.movement(i + 1).start)?;
+        queues[usize::from(i)] = net.movement(i + 1).start as i128;
     }
-    Ok(queues)
 }
 
 /// How many vehicles are queued when a run starts.

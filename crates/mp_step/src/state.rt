@@ -13,9 +13,11 @@ ghost use Rattle.mp_step.specs.OpenStep.{closed_open, open_step};
 ghost use Rattle.mp_step.specs.Standing.{Stands, IsOn, closed, shares_in, splits_of};
 ghost use Rattle.mp_step.specs.Taken.{HasTaken};
 
-use crate::levels::{make_buckets, room_at};
+use crate::cells::{level_of, phase_of};
+use crate::levels::{make_buckets, room_of};
 use crate::passing::{serve_all, serve_open};
-use crate::starts::{start_queues, started};
+use crate::spans::Spans;
+use crate::starts::started;
 use crate::traffic::{Traffic, advance};
 use mp_feed::{NoMemory, Splitter};
 use mp_net::{LinkNo, MovementNo, Net, StageNo};
@@ -58,15 +60,9 @@ impl State {
     {
         let _ = net.shares();
         let movements = usize::from(net.movements());
-        let links = usize::from(net.links());
         let traffic = Traffic {
             period: 0,
-            queues: start_queues(alloc, net)?,
-            next_queues: vec![in alloc; 0i128; movements]?,
-            phases: vec![in alloc; 0u32; links]?,
-            next_phases: vec![in alloc; 0u32; links]?,
-            levels: vec![in alloc; 0u64; links]?,
-            next_levels: vec![in alloc; 0u64; links]?,
+            spans: Spans::open(alloc, net)?,
             total_in: started(net),
             total_out: 0,
             splits: make_splits(alloc, net)?,
@@ -82,7 +78,7 @@ impl State {
         requires { (1 ≤ k) × (k ≤ length self.now.queues) }
         ensures { result ≡ pos (entry self.now.queues k) }
     {
-        queue_of(&self.traffic.queues, k) as i128
+        queue_of(self.traffic.spans.queues(), k) as i128
     }
 
     /// The queues, one per movement.
@@ -92,7 +88,7 @@ impl State {
         ensures counts { AreCounts result.now }
         ensures few { All (λ q. q ≤ 2 ^ 85) self.now.queues }
     {
-        &self.traffic.queues
+        self.traffic.spans.queues()
     }
 
     /// The number of periods so far.
@@ -126,7 +122,7 @@ impl State {
         requires { (1 ≤ l) × (l ≤ length self.now.phases) }
         ensures { result ≡ entry self.now.phases l }
     {
-        self.traffic.phases[usize::from(l) - 1]
+        phase_of(self.traffic.spans.phases(), l)
     }
 
     /// The bucket level of the link, in vehicles times the rate length; it is 0 where the link is not fed.
@@ -134,7 +130,7 @@ impl State {
         requires { (1 ≤ l) × (l ≤ length self.now.levels) }
         ensures { result ≡ entry self.now.levels l }
     {
-        self.traffic.levels[usize::from(l) - 1]
+        level_of(self.traffic.spans.levels(), l)
     }
 
     /// The greatest count of arrivals that the bucket of the link takes in the next period.
@@ -142,11 +138,7 @@ impl State {
         requires { (1 ≤ l) × (l ≤ length self.now.levels) }
         ensures { (net : Network) → IsOn net self.now → IsRoom net (entry self.now.levels) l result }
     {
-        room_at(
-            &self.traffic.buckets,
-            &self.traffic.levels,
-            usize::from(l) - 1,
-        )
+        room_of(&self.traffic.buckets, self.traffic.spans.levels(), l)
     }
 
     /// One period in which the junctions show these stages, one per junction, and these many vehicles
@@ -175,7 +167,13 @@ impl State {
         ensures on { IsOn net.now self.new }
     {
         let _ = net.shares();
-        let left = serve_all(net, stages, None, &self.traffic.queues, &mut self.passes);
+        let left = serve_all(
+            net,
+            stages,
+            None,
+            self.traffic.spans.queues(),
+            &mut self.passes,
+        );
         advance(&mut self.traffic, net, &self.passes, left, arrivals)
     }
 
@@ -209,7 +207,7 @@ impl State {
             net,
             stages,
             Some(queued),
-            &self.traffic.queues,
+            self.traffic.spans.queues(),
             &mut self.passes,
         );
         advance(&mut self.traffic, net, &self.passes, left, arrivals)
@@ -245,7 +243,7 @@ impl State {
         ensures on { IsOn net.now self.new }
     {
         let _ = net.shares();
-        let left = serve_open(net, passing, &self.traffic.queues, &mut self.passes);
+        let left = serve_open(net, passing, self.traffic.spans.queues(), &mut self.passes);
         advance(&mut self.traffic, net, &self.passes, left, arrivals)
     }
 }

@@ -11,31 +11,24 @@ ghost use Rattle.mp_step.specs.Standing.{IsOn};
 ghost use Rattle.mp_step.specs.Taken.{HasTaken};
 ghost use Rattle.mp_step.specs.TrafficView.{stands, IsSound};
 
-use crate::levels::levels_after;
-use crate::moving::move_all;
+use crate::spans::Spans;
 use crate::state::AboveAt;
 use mp_feed::{Bucket, Splitter};
 use mp_net::Net;
-use std::mem;
 
 /// The traffic on a network: the queue of each movement, the phase and the bucket level of each link,
 /// the period, and how many vehicles entered and departed.
 ///
-/// A period writes the next queues, phases and levels beside those of now, and then swaps them, so it
-/// takes no memory: all buffers are made at the opening. A refused period doesn't swap.
+/// A period writes the next queues, phases and levels beside those of now, and then flips their spans, so
+/// it takes no memory and copies nothing: all cells are made at the opening. A refused period doesn't flip.
 #[derive(Drop)]
 pub struct Traffic {
     pub period: u64,
-    pub queues: Vec<i128>,
-    pub next_queues: Vec<i128>,
-    pub phases: Vec<u32>,
-    pub next_phases: Vec<u32>,
-    pub levels: Vec<u64>,
-    pub next_levels: Vec<u64>,
+    pub spans: Spans,
     pub total_in: u128,
     pub total_out: u128,
     pub splits: Vec<Splitter>,
-    // The empty bucket of each link; its level stands in `levels`.
+    // The empty bucket of each link; its level stands in the spans.
     pub buckets: Vec<Bucket>,
     // How what a link received is split.
     pub parts: Vec<u64>,
@@ -71,29 +64,18 @@ pub fn advance(
     ensures sound { IsSound traffic.new }
 {
     let _ = net.shares();
-    if let Some(link) = levels_after(
-        net,
-        &traffic.buckets,
-        &traffic.levels,
-        arrivals,
-        &mut traffic.next_levels,
-    ) {
-        return Err(AboveAt { link });
-    }
-    let came = move_all(
+    let came = match traffic.spans.write_next(
         net,
         &traffic.splits,
+        &traffic.buckets,
         arrivals,
-        &traffic.phases,
-        &traffic.queues,
         passes,
         &mut traffic.parts,
-        &mut traffic.next_queues,
-        &mut traffic.next_phases,
-    );
-    mem::swap(&mut traffic.queues, &mut traffic.next_queues);
-    mem::swap(&mut traffic.phases, &mut traffic.next_phases);
-    mem::swap(&mut traffic.levels, &mut traffic.next_levels);
+    ) {
+        Ok(came) => came,
+        Err(link) => return Err(AboveAt { link }),
+    };
+    traffic.spans.flip();
     traffic.period += 1;
     traffic.total_in += u128::from(came);
     traffic.total_out += u128::from(left);

@@ -10,6 +10,6 @@ invariant-loop-i l = record {
   so_far : l.sum ≡ sum_by (arrivals_of l.net l.arrivals) (numbers_to l.i);
   small : l.sum ≤ l.i * 10 ^ 9;
   some : NoneNegative l.initial.next → NoneNegative l.next;
-  queues : (k : ℕ) → 1 ≤ k → k ≤ length l.net.movements → from_of l.net k ≤ l.i → entry (naturals l.next) k ≡ moved l.net l.arrivals (entry l.phases) (entry (naturals l.queues)) (entry l.passes) k;
-  phases : (j : ℕ) → j < l.i → slice_index l.next_phases j ≡ (entry l.phases (j + 1) + received l.net l.arrivals (entry l.passes) (j + 1)) % l.net.shares;
+  queues : (k : ℕ) → 1 ≤ k → k ≤ length l.net.movements → from_of l.net k ≤ l.i → entry (naturals l.next) k ≡ moved l.net l.arrivals (entry (naturals l.phases)) (entry (naturals l.queues)) (entry l.passes) k;
+  phases : (j : ℕ) → j < l.i → slice_index (naturals l.next_phases) j ≡ (entry (naturals l.phases) (j + 1) + received l.net l.arrivals (entry l.passes) (j + 1)) % l.net.shares;
 }
