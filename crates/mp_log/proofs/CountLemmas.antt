@@ -27,40 +27,40 @@ behind_more : (read : List ℕ) (x : ℕ) (o : Option (List ℕ)) → behind rea
 behind_more read x None = refl
 behind_more read x (Some xs) = ap (λ ys. Some ys) (sym (append_assoc read (x ∷ []) xs))
 
--- the first part, and the others
-split_at_comma : (rest : List ℕ) (at : ℕ) → position (λ b. b == 44) rest ≡ Some at → split rest ≡ take at rest ∷ split (drop (at + 1) rest)
-split_at_comma rest at is =
-    let here : position_or_len (λ b. b == 44) rest ≡ at = grind (arith, nat_tests) in
-    let within : position_or_len (λ b. b == 44) rest < length rest = grind (arith, nat_tests) in
-    slice_split_first (λ b. b == 44) rest 0 within ∙ ap (λ n. take n rest ∷ split (drop (n + 1) rest)) here
+-- the first part, and the others, where a byte stands between two
+pub split_at : (c : ℕ) (rest : List ℕ) (at : ℕ) → position (λ b. b == c) rest ≡ Some at → slice_split (λ b. b == c) rest ≡ take at rest ∷ slice_split (λ b. b == c) (drop (at + 1) rest)
+split_at c rest at is =
+    let here : position_or_len (λ b. b == c) rest ≡ at = grind (arith, nat_tests) in
+    let within : position_or_len (λ b. b == c) rest < length rest = grind (arith, nat_tests) in
+    slice_split_first (λ b. b == c) rest 0 within ∙ ap (λ n. take n rest ∷ slice_split (λ b. b == c) (drop (n + 1) rest)) here
 
-no_comma : (rest : List ℕ) → position (λ b. b == 44) rest ≡ None → split rest ≡ rest ∷ []
-no_comma rest is =
-    let past : length rest ≤ position_or_len (λ b. b == 44) rest = grind (arith, nat_tests) in
-    slice_split_none (λ b. b == 44) rest (λ k d l. fails_before_first (λ b. b == 44) rest k d (omega arith))
+pub unsplit : (c : ℕ) (rest : List ℕ) → position (λ b. b == c) rest ≡ None → slice_split (λ b. b == c) rest ≡ rest ∷ []
+unsplit c rest is =
+    let past : length rest ≤ position_or_len (λ b. b == c) rest = grind (arith, nat_tests) in
+    slice_split_none (λ b. b == c) rest (λ k d l. fails_before_first (λ b. b == c) rest k d (omega arith))
 
 pub read_more : (read rest after : List ℕ) (whole : Option (List ℕ)) (at x : ℕ) → behind read (counts_of_parts (split rest)) ≡ whole → position (λ b. b == 44) rest ≡ Some at
     → part_count (take at rest) ≡ Some x → after ≡ drop (at + 1) rest → behind (read ++ x ∷ []) (counts_of_parts (split after)) ≡ whole
 read_more read rest after whole at x so_far is count same =
     rw same (sym (behind_more read x (counts_of_parts (split (drop (at + 1) rest))))
     ∙ ap (λ o. behind read (onto o (counts_of_parts (split (drop (at + 1) rest))))) (sym count)
-    ∙ ap (λ ps. behind read (counts_of_parts ps)) (sym (split_at_comma rest at is)) ∙ so_far)
+    ∙ ap (λ ps. behind read (counts_of_parts ps)) (sym (split_at 44 rest at is)) ∙ so_far)
 
 pub part_fails : (read rest : List ℕ) (whole : Option (List ℕ)) (at : ℕ) → behind read (counts_of_parts (split rest)) ≡ whole → position (λ b. b == 44) rest ≡ Some at
     → part_count (take at rest) ≡ None → None ≡ whole
 part_fails read rest whole at so_far is count =
     ap (λ o. behind read (onto o (counts_of_parts (split (drop (at + 1) rest))))) (sym count)
-    ∙ ap (λ ps. behind read (counts_of_parts ps)) (sym (split_at_comma rest at is)) ∙ so_far
+    ∙ ap (λ ps. behind read (counts_of_parts ps)) (sym (split_at 44 rest at is)) ∙ so_far
 
 pub last_more : (read rest : List ℕ) (whole : Option (List ℕ)) (x : ℕ) → behind read (counts_of_parts (split rest)) ≡ whole → position (λ b. b == 44) rest ≡ None
     → part_count rest ≡ Some x → Some (read ++ x ∷ []) ≡ whole
 last_more read rest whole x so_far is count =
-    ap (λ o. behind read (onto o (Some []))) (sym count) ∙ ap (λ ps. behind read (counts_of_parts ps)) (sym (no_comma rest is)) ∙ so_far
+    ap (λ o. behind read (onto o (Some []))) (sym count) ∙ ap (λ ps. behind read (counts_of_parts ps)) (sym (unsplit 44 rest is)) ∙ so_far
 
 pub last_fails : (read rest : List ℕ) (whole : Option (List ℕ)) → behind read (counts_of_parts (split rest)) ≡ whole → position (λ b. b == 44) rest ≡ None
     → part_count rest ≡ None → None ≡ whole
 last_fails read rest whole so_far is count =
-    ap (λ o. behind read (onto o (Some []))) (sym count) ∙ ap (λ ps. behind read (counts_of_parts ps)) (sym (no_comma rest is)) ∙ so_far
+    ap (λ o. behind read (onto o (Some []))) (sym count) ∙ ap (λ ps. behind read (counts_of_parts ps)) (sym (unsplit 44 rest is)) ∙ so_far
 
 -- as many counts as parts
 onto_length : (o : Option ℕ) (rest : Option (List ℕ)) (n : ℕ) (ns : List ℕ) → ((ms : List ℕ) → rest ≡ Some ms → length ms ≡ n) → onto o rest ≡ Some ns → length ns ≡ n + 1
@@ -94,6 +94,6 @@ all_read line ns n read size = let same : (length ns == n) ≡ true = grind (ari
 pub few_read : (line ns : List ℕ) (n : ℕ) → Some ns ≡ counts_of_parts (split line) → length ns ≢ n → read_counts n line ≡ None
 few_read line ns n read other = ap (of_length n) (sym read) ∙ of_other_length n ns other
 
--- a comma stands within the bytes
-pub comma_within : (rest : List ℕ) (at : ℕ) → position (λ b. b == 44) rest ≡ Some at → at < length rest
-comma_within rest at is = (position-Some (λ b. b == 44) rest at 0 is).0
+-- the byte stands within the bytes
+pub place_within : (c : ℕ) (rest : List ℕ) (at : ℕ) → position (λ b. b == c) rest ≡ Some at → at < length rest
+place_within c rest at is = (position-Some (λ b. b == c) rest at 0 is).0

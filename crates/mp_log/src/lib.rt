@@ -2,6 +2,7 @@
 #![tactic(auto)]
 
 mod end;
+mod event_line;
 mod header;
 mod line;
 mod logged;

@@ -30,7 +30,7 @@ fn behind_period(line: &[u8], period: u64) -> Option<&[u8]>
 }
 
 // The place of the first space.
-fn space(bytes: &[u8]) -> Option<usize>
+pub(crate) fn space(bytes: &[u8]) -> Option<usize>
     ensures { result ≡ position (λ b. b == 32) bytes.now }
 {
     bytes.iter().position(|b| *b == b' ')

@@ -2,12 +2,12 @@
 ghost use Rattle.std.specs.Prelude.{◌≡◌, ◌==◌, ◌≤◌, ◌<◌, ◌⊎◌, ◌+◌, ◌++◌, ◌∷◌, [], ℕ, length, take, drop, true, false, IsTrue, ◌↔◌, Some, None, All, ◌^◌, cond, List};
 ghost use Rattle.std.specs.List.{list_all, position, slice_split};
 ghost use Rattle.arrayvec.specs.ArrayVec.{array_vec_len};
-ghost use Rattle.mp_model.specs.Network.{fed};
-ghost use Rattle.mp_model.specs.Stream.{is_blank, is_skipped, without_blanks_before, without_blanks_behind, count_of, read_counts, plain_kind, without_events};
-ghost use Rattle.mp_log.specs.Kinds.{IsOfKind};
+ghost use Rattle.mp_model.specs.Stream.{is_blank, is_skipped, without_blanks_before, without_blanks_behind, count_of, read_counts, plain_kind};
+ghost use Rattle.mp_log.specs.Kinds.{kind_read, IsOnNetwork};
 
+use crate::event_line::read_words;
 use arrayvec::ArrayVec;
-use mp_net::Net;
+use mp_net::{JunctionNo, LinkNo, Net};
 use mp_text::read_count;
 
 /// What a line of a stream is.
@@ -17,6 +17,15 @@ pub enum StreamLine {
     Skipped,
     /// One count per fed link.
     Arrivals,
+    /// The junction hears the count of the link.
+    Hear {
+        junction: JunctionNo,
+        link: LinkNo,
+    },
+    /// The junction decides.
+    Decide {
+        junction: JunctionNo,
+    },
     /// Not in the grammar.
     Bad,
 }
@@ -78,7 +87,7 @@ fn comma(bytes: &[u8]) -> Option<usize>
 }
 
 // The bytes behind the one at this place.
-fn behind(bytes: &[u8], at: usize) -> &[u8]
+pub(crate) fn behind(bytes: &[u8], at: usize) -> &[u8]
     requires { at < length bytes.now }
     ensures { result.now ≡ drop (at + 1) bytes.now }
 {
@@ -136,9 +145,9 @@ fn read_counts(line: &[u8], n: usize, into: &mut ArrayVec<u64, 128>) -> bool
 /// return. With `Arrivals` it makes `into` the counts, one per fed link in link order; with every
 /// other answer `into` is empty.
 pub fn read_line(net: &Net, line: &[u8], into: &mut ArrayVec<u64, 128>) -> StreamLine
-    ensures kind { IsOfKind result into.new.items (without_events (plain_kind net.now line.now)) }
-    ensures count { result ≡ StreamLine.Arrivals → length into.new.items ≡ length (fed net.now) }
-    ensures digits { result ≡ StreamLine.Arrivals → All (λ a. a < 10 ^ 9) into.new.items }
+    ensures kind { plain_kind net.now line.now ≡ kind_read result into.new.items }
+    ensures network { IsOnNetwork net.now result into.new.items }
+    ensures empty { ¬ (result ≡ StreamLine.Arrivals) → into.new.items ≡ [] }
 {
     into.clear();
     if is_skipped(line) {
@@ -149,6 +158,6 @@ pub fn read_line(net: &Net, line: &[u8], into: &mut ArrayVec<u64, 128>) -> Strea
     if read_counts(line, fed.len(), into) {
         StreamLine::Arrivals
     } else {
-        StreamLine::Bad
+        read_words(net, line)
     }
 }

@@ -1,7 +1,7 @@
 use Rattle.std.proofs.Common.{◌<◌, ◌^◌, [], ◌∷◌, Some, length, arith, sym, ◌∙◌, ap, inl, inr, rules}
 use Rattle.std.proofs.lemmas.List.{length-append}
 use Rattle.std.proofs.lemmas.List.Elements.{All-push}
-use Rattle.mp_log.proofs.CountLemmas.{comma_within, read_more, part_fails, last_more, last_fails, too_many, none_read, all_read, few_read}
+use Rattle.mp_log.proofs.CountLemmas.{place_within, read_more, part_fails, last_more, last_fails, too_many, none_read, all_read, few_read}
 use Rattle.mp_log.proofs.stream_line.read_counts.Goals as goal
 
 pub returns-then-not-push_count-clause-none : goal.returns-then-not-push_count-clause-none
@@ -45,4 +45,4 @@ returns-clause-digits c =
     λ _. rw p.1.2 (All-push (λ a. a < 10 ^ 9) c.loop-at.into.items p.1.0 c.loop-at.invariant.digits p.1.3)
 
 pub behind-rest-requires : goal.behind-rest-requires
-behind-rest-requires c = comma_within c.loop-at.rest.now c.in-Some.at (search rules)
+behind-rest-requires c = place_within 44 c.loop-at.rest.now c.in-Some.at (search rules)

@@ -1,0 +1,4 @@
+pub mod Course
+pub mod Taking
+pub mod Ends
+pub mod Progress
