@@ -24,7 +24,7 @@ module _ {R : Type 0} (run : Course R) (head : List ℕ) where
   part_behind kinds whole left was mid now put (inl cut) = inl (cut_behind_head head (text_of (run.lines kinds)) was mid now put cut)
   part_behind kinds whole left was mid now put (inr cut) = inr (cut.0, cut_behind_head head (whole_text run kinds) was mid now put cut.1)
 
-  refused_behind : (kind : LineKind) (n : ℕ) (whole left was mid now : Option (List ℕ)) → Tells was mid (λ before after. after ≡ before ++ head) → RefusedAt run [] kind n whole left mid now → RefusedAt run head kind n whole left was now
+  abbrev refused_behind : (kind : LineKind) (n : ℕ) (whole left was mid now : Option (List ℕ)) → Tells was mid (λ before after. after ≡ before ++ head) → RefusedAt run [] kind n whole left mid now → RefusedAt run head kind n whole left was now
   refused_behind kind n whole left was mid now put refused = record {
     kinds = refused.kinds;
     number = refused.number;

@@ -197,7 +197,7 @@ module _ {R : Type 0} (run : Course R) where
       }
 
   -- the line is refused
-  refused_at : (Old : List LineKind → Type 0) (kind : LineKind) (whole left left' : Option (List ℕ)) (cut new_cut : Cut) (was now now' : Option (List ℕ)) (count : ℕ) → count < 2 ^ 48
+  abbrev refused_at : (Old : List LineKind → Type 0) (kind : LineKind) (whole left left' : Option (List ℕ)) (cut new_cut : Cut) (was now now' : Option (List ℕ)) (count : ℕ) → count < 2 ^ 48
       → (p : Progress run Old whole left cut.held was now count) → Tells left left' (Cuts 2049 Line cut new_cut) → kind_for run (plain_kind run.net new_cut.line) ≡ kind → now' ≡ now → RefusedAt run [] kind (count + 1) whole left' was now'
   refused_at Old kind whole left left' cut new_cut was now now' count few p cuts is same = record {
     kinds = p.kinds;
