@@ -18,7 +18,8 @@ use Rattle.mp_cert.specs.TextMeaning.{cert_meaning, vector_meaning}
 use Rattle.mp_flow.specs.declared.network.Place.TheVariants as at
 use Rattle.mp_gen.specs.DemoNetwork.{demo_network}
 use Rattle.mp_netfile.specs.Meaning.{file_meaning}
-use Rattle.mp_run.specs.Running.{IsTaken, StartsWith, RefusedAt, RefusedAbove, HasTooMany}
+use Rattle.mp_stream.specs.Course.{IsTaken}
+use Rattle.mp_run.specs.Running.{StartsWith, RefusedAt, RefusedAbove, HasTooMany}
 use Rattle.mp_run.specs.declared.run.RunEnd.TheVariants as end
 use Rattle.mp_run.proofs.AboveLemmas.{not_excessive, not_finished, not_refused_at, not_many}
 use Rattle.mp_trial.specs.Search.{scaled, Found}

@@ -8,8 +8,9 @@ use Rattle.mp_model.specs.Network.{Network}
 use Rattle.mp_model.specs.Arrivals.{IsPermitted}
 use Rattle.mp_model.specs.Stream.{LineKind, arrivals_of_kinds}
 use Rattle.mp_model.specs.Stream.LineKind.{arrivals_line}
-use Rattle.mp_run.specs.Running.{IsTaken, StartsWith, IsAboveAt, Finished, RefusedAt, RefusedAbove, HasTooMany}
-use Rattle.mp_run.proofs.LineLemmas.{arrivals_there}
+use Rattle.mp_stream.specs.Course.{IsTaken}
+use Rattle.mp_run.specs.Running.{StartsWith, IsAboveAt, Finished, RefusedAt, RefusedAbove, HasTooMany}
+use Rattle.mp_run.proofs.CourseLemmas.{arrivals_there}
 use Rattle.mp_run.proofs.BucketLemmas.{none_above}
 
 -- lines that go past a line above a bucket are not permitted
@@ -25,17 +26,18 @@ whole_permitted net text n p l above kinds whole permitted = not_past net text n
 pub not_excessive : (net : Network) (head : List ℕ) (n p l : ℕ) (left rest was now : Option (List ℕ)) → RefusedAbove net head n p l left rest was now
     → (text : List ℕ) → left ≡ Some text → (kinds : List LineKind) → StartsWith net text kinds [] → IsPermitted net (arrivals_of_kinds kinds) → ⊥
 not_excessive net head n p l left rest was now refused text told kinds whole permitted =
-    let read : Tells (Some text) rest (λ text rest. (more : List LineKind) × StartsWith net text refused.kinds (arrivals_line refused.counts ∷ more)) =
-    subst (λ (o : Option (List ℕ)). Tells o rest (λ text rest. (more : List LineKind) × StartsWith net text refused.kinds (arrivals_line refused.counts ∷ more))) told refused.read in
+    let at = refused.at in
+    let read : Tells (Some text) rest (λ text rest. (more : List LineKind) × StartsWith net text at.kinds (refused.kind ∷ more)) =
+    subst (λ (o : Option (List ℕ)). Tells o rest (λ text rest. (more : List LineKind) × StartsWith net text at.kinds (refused.kind ∷ more))) told at.read in
     let above : IsAboveAt net text n p l = record {
-      kinds = refused.kinds;
-      counts = refused.counts;
+      kinds = at.kinds;
+      counts = refused.refused.counts;
       more = read.2.0;
-      number = refused.number;
-      period = refused.period;
-      lines = read.2.1;
-      permitted = refused.permitted;
-      above = refused.above;
+      number = at.number;
+      period = refused.refused.period;
+      lines = subst (λ kind. StartsWith net text at.kinds (kind ∷ read.2.0)) refused.refused.is read.2.1;
+      permitted = at.permitted;
+      above = refused.refused.first;
     } in
     whole_permitted net text n p l above kinds whole permitted
 

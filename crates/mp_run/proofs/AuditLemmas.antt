@@ -37,7 +37,7 @@ use Rattle.mp_run.proofs.BoundLemmas.{stays_within, stages_are, naturals_are}
 use Rattle.mp_run.proofs.BucketLemmas.{none_above}
 use Rattle.mp_run.proofs.LogLemmas.{small_at, line_begins, state_period}
 use Rattle.mp_run.proofs.PeriodLemmas.{stages_count, stages_small}
-use Rattle.mp_run.proofs.ProgressLemmas.{state_more}
+use Rattle.mp_run.proofs.CourseLemmas.{state_more}
 
 -- a carriage return is one byte
 return_length : (raw : List ℕ) → length raw ≤ length (without_return raw) + 1

@@ -1,5 +1,5 @@
 -- What a session keeps, over one period and over a whole run.
-use Rattle.std.proofs.Common.{◌≡◌, ◌≤◌, ◌<◌, ◌^◌, ℕ, ℤ, List, map, ap, sym, ◌∙◌, subst, pos, unsigned_abs, Option}
+use Rattle.std.proofs.Common.{◌≡◌, ◌≤◌, ◌<◌, ◌^◌, ℕ, ℤ, List, map, ap, sym, ◌∙◌, subst, pos, unsigned_abs}
 use Rattle.std.specs.List.{All}
 use Rattle.std.proofs.lemmas.Simd.{map-map}
 use Rattle.std.proofs.lemmas.List.{map-id}
@@ -7,7 +7,6 @@ use Rattle.mp_model.specs.Network.{Network, entry}
 use Rattle.mp_model.specs.Arrivals.{HasCounts, IsPermitted}
 use Rattle.mp_model.specs.Run.{greatest_stages}
 use Rattle.mp_model.specs.Step.{AreStages}
-use Rattle.mp_model.specs.Stream.{plain_kind, without_events}
 use Rattle.mp_laws.proofs.Bounds.{all_greatest}
 use Rattle.mp_laws.proofs.Permitted.{bound_of_run}
 use Rattle.mp_log.specs.Fitting.{FitsLine}
@@ -16,8 +15,7 @@ use Rattle.mp_press.proofs.Firsts.{greatest_are_stages}
 use Rattle.mp_step.specs.Standing.{Standing, IsOn}
 use Rattle.mp_drift.specs.Session.{Bounded, IsBounded}
 use Rattle.mp_num.specs.Fraction.{numerator, denominator}
-use Rattle.mp_run.specs.Running.{StaysWithin, TakesLine}
-use Rattle.mp_run.specs.declared.run.RunEnd.{RunEnd}
+use Rattle.mp_run.specs.Running.{StaysWithin, kept_of}
 use Rattle.mp_run.proofs.PeriodLemmas.{line_fits}
 
 -- the numbers of signed bounds are the bounds
@@ -51,9 +49,9 @@ closed_line_fits old new b same chosen at period counts shown queues at_is shown
     line_fits new.net period counts shown queues at b.acceptable.range (subst (λ (st : Standing). IsOn new.net st) (sym at_is) b.on) (subst (λ (n : Network). HasCounts n counts) (sym net) has)
     (subst (λ (stages : List ℕ). AreStages new.net.junctions stages) (sym greatest) (stages_are new b old.at.queues)) digits low queues_are few
 
--- what is taken of a line of one network is taken of it in the same network
-pub takes_same : (net net' : Network) (line line' : List ℕ) (n : ℕ) (end : Option RunEnd) (old new : Standing) (was now : Option (List ℕ)) → net ≡ net' → line ≡ line' → TakesLine net (without_events (plain_kind net line)) n end old new was now
-    → TakesLine net' (without_events (plain_kind net' line')) n end old new was now
-takes_same net net' line line' n end old new was now net_is line_is takes =
-    subst (λ (m : Network). TakesLine m (without_events (plain_kind m line')) n end old new was now) net_is
-    (subst (λ (xs : List ℕ). TakesLine net (without_events (plain_kind net xs)) n end old new was now) line_is takes)
+-- what a session keeps tells what stays the same
+pub same_of_kept : (old new : Bounded) → kept_of new ≡ kept_of old → new ≡ record old { at = new.at; stages = new.stages }
+same_of_kept old new kept = ap (λ (s : Bounded). record s { at = new.at; stages = new.stages }) kept
+
+pub kept_of_same : (old new : Bounded) → new ≡ record old { at = new.at; stages = new.stages } → kept_of new ≡ kept_of old
+kept_of_same old new same = ap kept_of same

@@ -23,7 +23,7 @@ use Rattle.mp_run.specs.declared.auditing.AuditEnd.{AuditEnd}
 use Rattle.mp_run.specs.declared.auditing.AuditEnd.TheVariants.{Done, Differs, Read}
 use Rattle.mp_run.proofs.BucketLemmas.{permitted_empty}
 use Rattle.mp_run.proofs.LogLemmas.{next_line, not_over, none_past, header_next, state_period}
-use Rattle.mp_run.proofs.ProgressLemmas.{state_more, lines_more}
+use Rattle.mp_run.proofs.CourseLemmas.{state_more, lines_more}
 
 -- lines that were seen, and one more
 pub seen_start : (whole : Option (List ℕ)) (held : List ℕ) → held ≡ [] → HasSeen [] whole whole held

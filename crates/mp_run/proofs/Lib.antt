@@ -1,9 +1,8 @@
 pub mod AboveLemmas
 pub mod BoundLemmas
 pub mod BucketLemmas
-pub mod LineLemmas
+pub mod CourseLemmas
 pub mod PeriodLemmas
-pub mod ProgressLemmas
 pub mod LogLemmas
 pub mod AuditLemmas
 pub mod DifferLemmas

@@ -1,5 +1,5 @@
 -- One period and the end, from what the calls say.
-use Rattle.std.proofs.Common.{◌≡◌, ◌≤◌, ◌<◌, ◌^◌, ℕ, ℤ, pos, ◌+◌, ◌-◌, List, [], ◌∷◌, ◌++◌, length, map, sum, sum_by, refl, sym, ◌∙◌, ap, subst, arith, Result, Ok, Err, Some, None}
+use Rattle.std.proofs.Common.{◌≡◌, ◌≤◌, ◌<◌, ◌^◌, ℕ, ℤ, pos, ◌+◌, ◌-◌, List, [], ◌∷◌, ◌++◌, length, map, sum, sum_by, refl, sym, ◌∙◌, ap, subst, arith, Result}
 use Rattle.std.specs.declared.option.Option.{Option}
 use Rattle.std.specs.List.{range_with_len, All, AllByRecursion}
 use Rattle.std.proofs.lemmas.List.{append-nil, append_assoc, length-append, length-map, get_or_at}
@@ -8,15 +8,19 @@ use Rattle.std.proofs.lemmas.List.Elements.{All-cons}
 use Rattle.mp_model.specs.Network.{Network, Junction, movement_numbers, entry}
 use Rattle.mp_model.specs.NetworkRules.{IsInRange}
 use Rattle.mp_model.specs.Arrivals.{HasCounts}
+use Rattle.mp_model.specs.Stream.{LineKind, arrivals_of_kinds}
 use Rattle.mp_model.specs.Stream.LineKind.{arrivals_line}
 use Rattle.mp_model.specs.Step.{State, AreStages, queue, queued}
-use Rattle.mp_model.specs.Run.{greatest_stages, advance}
+use Rattle.mp_model.specs.Run.{opening, greatest_stages, advance, state_after}
 use Rattle.mp_model.specs.Log.{text_of, period_line, line_after, end_line, end_line_of}
 use Rattle.mp_edge.specs.Outside.{Tells, Puts, GainsPrefix}
 use Rattle.mp_edge.proofs.Told.{Tells-weaker}
 use Rattle.mp_step.specs.Taken.{HasTaken}
-use Rattle.mp_run.specs.Running.{TakesLine, Finishes}
-use Rattle.mp_run.specs.declared.run.RunEnd.TheVariants.{Done, Write}
+use Rattle.mp_laws.specs.Buckets.{IsFirstAbove}
+use Rattle.mp_stream.specs.Taking.{Takes, CutsShort}
+use Rattle.mp_run.specs.Running.{course_of, StandsBehind, IsAbove}
+use Rattle.mp_run.specs.declared.run.AboveBucket.{AboveBucket}
+use Rattle.mp_run.proofs.CourseLemmas.{stands_more, period_more, period_behind}
 use Rattle.mp_log.specs.Fitting.{FitsLine}
 use Rattle.mp_log.proofs.FedLemmas.{fed_few}
 use Rattle.mp_press.specs.Queues.{naturals, NoneNegative}
@@ -104,22 +108,39 @@ put_line net counts stages old new period chosen advances is state stands =
     ap (λ p. period_line p counts stages new.queues ++ 10 ∷ []) is ∙ line_is net stages counts old new chosen state stands (advances state stands)
 
 -- a put that succeeds closes the period
-pub closes_period : (net : Network) (counts stages : List ℕ) (old new : Standing) (period n : ℕ) (was now : Option (List ℕ)) → stages ≡ greatest_stages net (entry old.queues) → ((A : List (List ℕ)) → HasTaken net old A → HasTaken net new (A ++ counts ∷ []))
+pub closes_period : (net : Network) (counts stages : List ℕ) (old new : Standing) (period : ℕ) (was now : Option (List ℕ)) → stages ≡ greatest_stages net (entry old.queues) → ((A : List (List ℕ)) → HasTaken net old A → HasTaken net new (A ++ counts ∷ []))
     → ((state : State) → Stands net old state → Stands net new (advance net counts state)) → period ≡ new.period → Tells was now (λ before after. after ≡ before ++ (period_line period counts stages new.queues ++ 10 ∷ []))
-    → TakesLine net (arrivals_line counts) n None old new was now
-closes_period net counts stages old new period n was now chosen takes advances is told = record {
-  moved = advances;
-  taken = takes;
-  written = λ state stands. Tells-weaker _ _ _ _ (λ before after e. e ∙ ap (λ xs. before ++ xs) (put_line net counts stages old new period chosen advances is state stands)) told;
+    → Takes (course_of net) (StandsBehind net old) (StandsBehind net new) (arrivals_line counts) was now
+closes_period net counts stages old new period was now chosen takes advances is told = record {
+  taken = tt;
+  stands = stands_more net counts old new takes advances;
+  permitted = λ kinds on. (stands_more net counts old new takes advances kinds on).taken.permitted;
+  written = λ kinds on.
+      let state = state_after net (opening net) (arrivals_of_kinds kinds) in
+      (line_after net state counts ∷ [], period_more net kinds counts,
+        Tells-weaker _ _ _ _ (λ before after e. e ∙ ap (λ xs. before ++ xs) (put_line net counts stages old new period chosen advances is state on.stands)) told);
 }
 
 -- one that fails cuts its line short
-pub cuts_period : (net : Network) (counts stages : List ℕ) (old new : Standing) (period n : ℕ) (was now : Option (List ℕ)) → stages ≡ greatest_stages net (entry old.queues) → ((A : List (List ℕ)) → HasTaken net old A → HasTaken net new (A ++ counts ∷ []))
+pub cuts_period : (net : Network) (counts stages : List ℕ) (old new : Standing) (period : ℕ) (was now : Option (List ℕ)) → stages ≡ greatest_stages net (entry old.queues) → ((A : List (List ℕ)) → HasTaken net old A → HasTaken net new (A ++ counts ∷ []))
     → ((state : State) → Stands net old state → Stands net new (advance net counts state)) → period ≡ new.period → Tells was now (GainsPrefix (period_line period counts stages new.queues ++ 10 ∷ []))
-    → TakesLine net (arrivals_line counts) n (Some Write) old new was now
-cuts_period net counts stages old new period n was now chosen takes advances is told = record {
-  permitted = λ A taken. (takes A taken).permitted;
-  cut = λ state stands. subst (λ (text : List ℕ). Tells was now (GainsPrefix text)) (put_line net counts stages old new period chosen advances is state stands) told;
+    → CutsShort (course_of net) (StandsBehind net old) (arrivals_line counts) was now
+cuts_period net counts stages old new period was now chosen takes advances is told = record {
+  taken = tt;
+  permitted = λ kinds on. (stands_more net counts old new takes advances kinds on).taken.permitted;
+  written = λ kinds on.
+      let state = state_after net (opening net) (arrivals_of_kinds kinds) in
+      (line_after net state counts ∷ [], period_more net kinds counts, subst (λ (text : List ℕ). Tells was now (GainsPrefix text)) (put_line net counts stages old new period chosen advances is state on.stands) told);
+}
+
+-- arrivals above a bucket refuse their line
+pub refuses_period : (net : Network) (counts : List ℕ) (old : Standing) (why : AboveBucket) → why.period ≡ old.period + 1 → ((A : List (List ℕ)) → HasTaken net old A → IsFirstAbove net A counts why.link)
+    → (kinds : List LineKind) → StandsBehind net old kinds → IsAbove net kinds (arrivals_line counts) why
+refuses_period net counts old why next above kinds on = record {
+  counts = counts;
+  is = refl;
+  period = next ∙ ap (λ p. p + 1) (period_behind net old kinds on);
+  first = above (arrivals_of_kinds kinds) on.taken;
 }
 
 put_end_is : (net : Network) (st : Standing) (period total_in total_out n : ℕ) → IsOn net st → period ≡ st.period → total_in ≡ st.total_in → total_out ≡ st.total_out → n ≡ total_in - total_out
@@ -128,14 +149,8 @@ put_end_is net st period total_in total_out n on p i o is conserved state stands
     ap (λ line. line ++ 10 ∷ []) (end_line_is net st period total_in total_out n on p i o is conserved state stands) ∙ sym (one_line (end_line net state))
 
 -- the end line that is put
-pub finishes_done : {T E : Type 0} (r : Result T E) (x : T) (net : Network) (st : Standing) (period total_in total_out n : ℕ) (was now : Option (List ℕ)) → IsOn net st → period ≡ st.period → total_in ≡ st.total_in → total_out ≡ st.total_out
-    → n ≡ total_in - total_out → st.total_in ≡ st.total_out + sum st.queues → r ≡ Ok x → Tells was now (Puts r (end_line_of period total_in total_out n ++ 10 ∷ [])) → Finishes net Done st was now
-finishes_done r x net st period total_in total_out n was now on p i o is conserved ok told =
-    λ state stands. Tells-weaker _ _ _ _ (λ before after e. e ∙ ap (λ xs. before ++ xs) (put_end_is net st period total_in total_out n on p i o is conserved state stands))
-    (subst (λ s. Tells was now (Puts s (end_line_of period total_in total_out n ++ 10 ∷ []))) ok told)
-
-pub finishes_cut : {T E : Type 0} (r : Result T E) (x : E) (net : Network) (st : Standing) (period total_in total_out n : ℕ) (was now : Option (List ℕ)) → IsOn net st → period ≡ st.period → total_in ≡ st.total_in → total_out ≡ st.total_out
-    → n ≡ total_in - total_out → st.total_in ≡ st.total_out + sum st.queues → r ≡ Err x → Tells was now (Puts r (end_line_of period total_in total_out n ++ 10 ∷ [])) → Finishes net Write st was now
-finishes_cut r x net st period total_in total_out n was now on p i o is conserved err told =
-    λ state stands. subst (λ (text : List ℕ). Tells was now (GainsPrefix text)) (put_end_is net st period total_in total_out n on p i o is conserved state stands)
-    (subst (λ s. Tells was now (Puts s (end_line_of period total_in total_out n ++ 10 ∷ []))) err told)
+pub finishes : {T E : Type 0} (r : Result T E) (net : Network) (st : Standing) (period total_in total_out n : ℕ) (was now : Option (List ℕ)) → IsOn net st → period ≡ st.period → total_in ≡ st.total_in → total_out ≡ st.total_out
+    → n ≡ total_in - total_out → st.total_in ≡ st.total_out + sum st.queues → Tells was now (Puts r (end_line_of period total_in total_out n ++ 10 ∷ []))
+    → (kinds : List LineKind) → StandsBehind net st kinds → Tells was now (Puts r (text_of ((course_of net).end_line kinds ∷ [])))
+finishes r net st period total_in total_out n was now on p i o is conserved told kinds behind =
+    subst (λ (text : List ℕ). Tells was now (Puts r text)) (put_end_is net st period total_in total_out n on p i o is conserved _ behind.stands) told

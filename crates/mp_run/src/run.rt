@@ -1,27 +1,23 @@
 //! A run over a stream.
-ghost use Rattle.std.specs.Prelude.{◌≡◌, ◌≤◌, ◌<◌, ◌+◌, ◌^◌, ℕ, List, [], Some, All};
+ghost use Rattle.std.specs.Prelude.{◌≡◌, ◌≤◌, ◌<◌, ◌+◌, ◌^◌, ℕ, List, [], Err, All};
 ghost use Rattle.mp_edge.specs.Outside.{Rose};
 ghost use Rattle.mp_model.specs.Arrivals.{HasCounts, IsPermitted};
 ghost use Rattle.mp_model.specs.Run.{opening};
-ghost use Rattle.mp_model.specs.Stream.{plain_kind, without_events};
 ghost use Rattle.mp_model.specs.Stream.LineKind.{arrivals_line};
 ghost use Rattle.mp_model.specs.declared.limits.TheConstants.{MOST_LINES};
 ghost use Rattle.mp_press.specs.Queues.{naturals};
 ghost use Rattle.mp_step.specs.Standing.{Stands};
 ghost use Rattle.mp_step.specs.Taken.{HasTaken};
-ghost use Rattle.mp_run.specs.Running.{EndsAs, StaysWithin, TakesLine, Finishes};
+ghost use Rattle.mp_stream.specs.Taking.{TakesLine};
+ghost use Rattle.mp_run.specs.Running.{course_of, StandsBehind, stream_end, EndsAs, StaysWithin};
 
-use arrayvec::ArrayVec;
 use mp_drift::Session;
 use mp_edge::{Failed, Sink, Source};
-use mp_log::{StreamLine, put_end, put_period_in, read_line};
-use mp_model::limits::{MOST_LINES, MOST_STREAM_LINE_BYTES};
-use mp_net::LinkNo;
+use mp_log::{StreamLine, put_end, put_period_in};
+use mp_net::{LinkNo, Net};
 use mp_step::AboveAt;
-use mp_text::{LineCutter, LineSink, LineStep, SmallNumbers};
-
-/// The size of a buffer for lines of a stream, each with its line feed.
-const STREAM_LINE_SIZE: usize = MOST_STREAM_LINE_BYTES + 1;
+use mp_stream::{Driven, End, Stop, drive};
+use mp_text::{LineSink, SmallNumbers};
 
 /// How a run ends. Lines are numbered from 1, and all lines count.
 #[derive(Clone, Copy, Debug, PartialEq, Eq)]
@@ -51,29 +47,35 @@ pub enum RunEnd {
     },
 }
 
-// Takes a line of arrivals, which has this number: closes a period with the greatest stages, and puts
-// its line. Nothing is put where the arrivals are above a bucket.
+/// Why a session refuses a line of arrivals: in this period, which is the next, the link is the least
+/// that does not keep to its bucket.
+#[derive(Clone, Copy, Debug, PartialEq, Eq)]
+pub struct AboveBucket {
+    pub period: u64,
+    pub link: LinkNo,
+}
+
+// Closes a period with the greatest stages, and puts its line. Nothing is put where the arrivals are
+// above a bucket.
 fn close_period<Out: Sink>(
     session: &mut Session,
-    line: u64,
     arrivals: &[u64],
     text: &mut LineSink,
     small: &SmallNumbers,
     out: &mut Out,
-) -> Option<RunEnd>
+) -> Result<(), Stop<AboveBucket>>
     requires counts { HasCounts session.old.net arrivals.now }
     requires digits { All (λ a. a < 10 ^ 9) arrivals.now }
     requires period { session.old.at.period < MOST_LINES }
-    ensures takes { TakesLine session.old.net (arrivals_line arrivals.now) line result session.old.at session.new.at (Out.held out.old) (Out.held out.new) }
+    ensures takes { TakesLine (course_of session.old.net) (StandsBehind session.old.net session.old.at) (StandsBehind session.old.net session.new.at) (arrivals_line arrivals.now) result (Out.held out.old) (Out.held out.new) }
     ensures same { session.new ≡ record session.old { at = session.new.at; stages = session.new.stages } }
-    ensures period { session.new.at.period ≤ session.old.at.period + 1 }
     ensures later { Out.faults out.old ≤ Out.faults out.new }
-    ensures write { result ≡ Some RunEnd.Write → Rose (Out.faults out.old) (Out.faults out.new) }
+    ensures write { result ≡ Err Stop.Write → Rose (Out.faults out.old) (Out.faults out.new) }
 {
     match session.period(arrivals) {
         Err(AboveAt { link }) => {
             let period = session.state().period() + 1;
-            Some(RunEnd::Above { line, period, link })
+            Err(Stop::Refused(AboveBucket { period, link }))
         }
         Ok(()) => {
             let state = session.state();
@@ -81,54 +83,75 @@ fn close_period<Out: Sink>(
             let period = state.period();
             let queues = state.queues();
             match put_period_in(text, small, out, period, arrivals, stages, queues) {
-                Ok(()) => None,
-                Err(Failed) => Some(RunEnd::Write),
+                Ok(()) => Ok(()),
+                Err(Failed) => Err(Stop::Write),
             }
         }
     }
 }
 
-// Takes a line, which has this number.
-fn take_line<Out: Sink>(
-    session: &mut Session,
-    line: &[u8],
-    number: u64,
-    arrivals: &mut ArrayVec<u64, 128>,
-    text: &mut LineSink,
-    small: &SmallNumbers,
-    out: &mut Out,
-) -> Option<RunEnd>
-    requires period { session.old.at.period < MOST_LINES }
-    ensures takes { TakesLine session.old.net (without_events (plain_kind session.old.net line.now)) number result session.old.at session.new.at (Out.held out.old) (Out.held out.new) }
-    ensures same { session.new ≡ record session.old { at = session.new.at; stages = session.new.stages } }
-    ensures period { session.new.at.period ≤ session.old.at.period + 1 }
-    ensures later { Out.faults out.old ≤ Out.faults out.new }
-    ensures write { result ≡ Some RunEnd.Write → Rose (Out.faults out.old) (Out.faults out.new) }
-{
-    match read_line(session.net(), line, arrivals) {
-        StreamLine::Skipped => None,
-        StreamLine::Bad => Some(RunEnd::Grammar { line: number }),
-        StreamLine::Arrivals => close_period(session, number, arrivals, text, small, out),
+/// A session takes lines of arrivals alone. Each closes a period with the stages of greatest pressure,
+/// and its line is put.
+impl<'a> Driven<AboveBucket> for Session<'a> {
+    ghost use Rattle.mp_drift.specs.Session.{Bounded};
+    ghost use Rattle.mp_run.specs.Running.{course_of, kept_of, StandsBehind};
+
+    ghost Kept = { Bounded };
+
+    ghost kept = { kept_of };
+
+    ghost course = { λ session. course_of session.net };
+
+    ghost Stands = { λ session. StandsBehind session.net session.at };
+
+    fn net(&self) -> &Net {
+        Session::net(self)
+    }
+
+    fn take_line<Out: Sink>(
+        &mut self,
+        line: StreamLine,
+        arrivals: &[u64],
+        text: &mut LineSink,
+        small: &SmallNumbers,
+        out: &mut Out,
+    ) -> Result<(), Stop<AboveBucket>> {
+        match line {
+            StreamLine::Skipped => Ok(()),
+            StreamLine::Arrivals => close_period(self, arrivals, text, small, out),
+            StreamLine::Hear { .. } | StreamLine::Decide { .. } | StreamLine::Bad => Err(Stop::Bad),
+        }
+    }
+
+    fn finish<Out: Sink>(&self, out: &mut Out) -> Result<(), Failed> {
+        let state = self.state();
+        let queued = state.total_in() - state.total_out();
+        put_end(
+            out,
+            state.period(),
+            state.total_in(),
+            state.total_out(),
+            queued,
+        )
     }
 }
 
-// Puts the end line.
-fn finish<Out: Sink>(session: &Session, out: &mut Out) -> RunEnd
-    ensures finishes { Finishes session.now.net result session.now.at (Out.held out.old) (Out.held out.new) }
-    ensures later { Out.faults out.old ≤ Out.faults out.new }
-    ensures write { result ≡ RunEnd.Write → Rose (Out.faults out.old) (Out.faults out.new) }
+fn run_end(end: End<AboveBucket>) -> RunEnd
+    ensures same { stream_end result ≡ end }
+    ensures read { result ≡ RunEnd.Read → end ≡ End.Read }
+    ensures write { result ≡ RunEnd.Write → end ≡ End.Write }
 {
-    let state = session.state();
-    let queued = state.total_in() - state.total_out();
-    match put_end(
-        out,
-        state.period(),
-        state.total_in(),
-        state.total_out(),
-        queued,
-    ) {
-        Ok(()) => RunEnd::Done,
-        Err(Failed) => RunEnd::Write,
+    match end {
+        End::Done => RunEnd::Done,
+        End::Read => RunEnd::Read,
+        End::Write => RunEnd::Write,
+        End::LineLimit => RunEnd::LineLimit,
+        End::Long { line } => RunEnd::Long { line },
+        End::Bad { line } => RunEnd::Grammar { line },
+        End::Refused {
+            line,
+            refusal: AboveBucket { period, link },
+        } => RunEnd::Above { line, period, link },
     }
 }
 
@@ -157,34 +180,5 @@ pub fn run_stream<In: Source, Out: Sink>(
     ensures write { result ≡ RunEnd.Write → Rose (Out.faults out.old) (Out.faults out.new) }
 {
     let _ = session.state();
-    let mut cutter = LineCutter::<STREAM_LINE_SIZE>::new();
-    let mut arrivals = ArrayVec::new();
-    let mut text = LineSink::new();
-    let small = SmallNumbers::new();
-    for turn in 0..MOST_LINES {
-        match cutter.next(input) {
-            LineStep::Line => {
-                let line = cutter.line();
-                if let Some(end) = take_line(
-                    session,
-                    line,
-                    turn + 1,
-                    &mut arrivals,
-                    &mut text,
-                    &small,
-                    out,
-                ) {
-                    return end;
-                }
-            }
-            LineStep::End => return finish(session, out),
-            LineStep::TooLong => return RunEnd::Long { line: turn + 1 },
-            LineStep::Failed => return RunEnd::Read,
-        }
-    }
-    match cutter.next(input) {
-        LineStep::End => finish(session, out),
-        LineStep::Failed => RunEnd::Read,
-        LineStep::Line | LineStep::TooLong => RunEnd::LineLimit,
-    }
+    run_end(drive(session, input, out))
 }

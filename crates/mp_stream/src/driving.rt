@@ -17,7 +17,7 @@ const STREAM_LINE_SIZE: usize = MOST_STREAM_LINE_BYTES + 1;
 
 /// How a run over a stream ends. Lines are numbered from 1, and all lines count.
 #[derive(Clone, Copy, Debug, PartialEq, Eq)]
-pub enum End<R> {
+pub enum End<Refusal> {
     /// The stream was read to its end.
     Done,
     /// The source met a fault.
@@ -37,12 +37,12 @@ pub enum End<R> {
     /// The run refuses the line.
     Refused {
         line: u64,
-        refusal: R,
+        refusal: Refusal,
     },
 }
 
 // The end of a run that does not go on behind this line.
-fn stopped<R>(stop: Stop<R>, line: u64) -> End<R>
+fn stopped<Refusal>(stop: Stop<Refusal>, line: u64) -> End<Refusal>
     ensures end { result ≡ stop_end line stop }
     ensures write { result ≡ End.Write → stop ≡ Stop.Write }
 {
@@ -54,7 +54,7 @@ fn stopped<R>(stop: Stop<R>, line: u64) -> End<R>
 }
 
 // The end of a run whose stream was read to its end.
-fn finished<R: Driven, Out: Sink>(run: &R, out: &mut Out) -> End<R::Refusal>
+fn finished<Refusal, R: Driven<Refusal>, Out: Sink>(run: &R, out: &mut Out) -> End<Refusal>
     ensures finishes { Finishes (R.course (R.kept run.now)) (R.Stands run.now) result (Out.held out.old) (Out.held out.new) }
     ensures later { Out.faults out.old ≤ Out.faults out.new }
     ensures write { result ≡ End.Write → Rose (Out.faults out.old) (Out.faults out.new) }
@@ -69,11 +69,11 @@ fn finished<R: Driven, Out: Sink>(run: &R, out: &mut Out) -> End<R::Refusal>
 /// comes the end line. The first line that is too long, not in the grammar or refused ends it.
 ///
 /// The run is one at its start, and keeps what it keeps. The loop takes no memory.
-pub fn drive<R: Driven, In: Source, Out: Sink>(
+pub fn drive<Refusal, R: Driven<Refusal>, In: Source, Out: Sink>(
     run: &mut R,
     input: &mut In,
     out: &mut Out,
-) -> End<R::Refusal>
+) -> End<Refusal>
     requires start { IsAtStart (R.course (R.kept run.old)) (R.Stands run.old) }
     ensures ends { EndsAs (R.course (R.kept run.old)) [] result (In.left input.old) (In.left input.new) (Out.held out.old) (Out.held out.new) }
     ensures kept { R.kept run.new ≡ R.kept run.old }

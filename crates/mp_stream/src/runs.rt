@@ -14,30 +14,27 @@ use mp_text::{LineSink, SmallNumbers};
 
 /// Why a run does not go on behind a line.
 #[derive(Clone, Copy, Debug, PartialEq, Eq)]
-pub enum Stop<R> {
+pub enum Stop<Refusal> {
     /// The line is not in the grammar, or is an event where the run takes none.
     Bad,
     /// The run refuses the line.
-    Refused(R),
+    Refused(Refusal),
     /// The sink met a fault.
     Write,
 }
 
-/// A run that a stream drives.
+/// A run that a stream drives, which says by a `Refusal` why it refuses a line.
 ///
 /// All that it writes, permits and refuses is a function of the kinds of the lines that it took, its
-/// course, and of what it keeps.
-pub trait Driven {
-    /// How the run refuses a line.
-    type Refusal;
-
+/// course, and of what it keeps. With a refusal of its own a crate can drive another crate's run.
+pub trait Driven<Refusal> {
     /// What the run keeps from line to line, as its network is.
     ghost Kept: { Type 0 };
 
     ghost kept: { Self → Kept };
 
     /// The course of a run that keeps this.
-    ghost course: { Kept → Course Self.Refusal };
+    ghost course: { Kept → Course Refusal };
 
     /// Lines of these kinds lead from the start to where the run stands.
     ghost Stands: { Self → List LineKind → Type 0 };
@@ -55,7 +52,7 @@ pub trait Driven {
         text: &mut LineSink,
         small: &SmallNumbers,
         out: &mut Out,
-    ) -> Result<(), Stop<Self::Refusal>>
+    ) -> Result<(), Stop<Refusal>>
         requires network { IsOnNetwork (course (kept self.old)).net line arrivals.now }
         requires room { HasRoom (Stands self.old) }
         ensures takes { TakesLine (course (kept self.old)) (Stands self.old) (Stands self.new) (kind_for (course (kept self.old)) (kind_read line arrivals.now)) result (Out.held out.old) (Out.held out.new) }

@@ -6,7 +6,7 @@ use Rattle.mp_press.specs.Queues.{naturals}
 use Rattle.mp_cert.specs.Views.{cert_of}
 use Rattle.mp_num.specs.Fraction.{numerator, denominator}
 use Rattle.mp_run.specs.Running.{EndsAs}
-use Rattle.mp_run.proofs.ProgressLemmas.{with_head, head_cut}
+use Rattle.mp_run.proofs.CourseLemmas.{with_head, head_cut}
 use Rattle.mp_cli.proofs.SessionLemmas.{stood_of, opens_with, header_same}
 use Rattle.mp_cli.proofs.streaming.stream_under.Goals as goal
 
