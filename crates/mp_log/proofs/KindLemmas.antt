@@ -54,10 +54,10 @@ hears net (Some j) (Some l) =
     ap (λ b. cond (b && has (link_numbers net) l) (hear_line j l) bad_line) (has_is (length net.junctions) j)
     ∙ ap (λ b. cond ((nat_le 1 j && nat_le j (length net.junctions)) && b) (hear_line j l) bad_line) (has_is (length net.links) l)
     ∙ go (nat_le 1 j && nat_le j (length net.junctions)) (nat_le 1 l && nat_le l (length net.links)) where
-  go : (b c : Bool) → cond (b && c) (hear_line j l) bad_line ≡ heard (cond b (Some j) None) (cond c (Some l) None)
-  go true true = refl
-  go true false = refl
-  go false c = refl
+      go : (b c : Bool) → cond (b && c) (hear_line j l) bad_line ≡ heard (cond b (Some j) None) (cond c (Some l) None)
+      go true true = refl
+      go true false = refl
+      go false c = refl
 
 -- four words or more are bad
 pub many_words : (net : Network) (line word junction link more : List ℕ) → slice_split (λ b. b == 32) line ≡ word ∷ junction ∷ link ∷ slice_split (λ b. b == 32) more → words_kind net (slice_split (λ b. b == 32) line) ≡ bad_line

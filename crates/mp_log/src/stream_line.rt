@@ -18,14 +18,9 @@ pub enum StreamLine {
     /// One count per fed link.
     Arrivals,
     /// The junction hears the count of the link.
-    Hear {
-        junction: JunctionNo,
-        link: LinkNo,
-    },
+    Hear { junction: JunctionNo, link: LinkNo },
     /// The junction decides.
-    Decide {
-        junction: JunctionNo,
-    },
+    Decide { junction: JunctionNo },
     /// Not in the grammar.
     Bad,
 }

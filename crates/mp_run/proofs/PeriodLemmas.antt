@@ -116,9 +116,11 @@ closes_period net counts stages old new period was now chosen takes advances is 
   stands = stands_more net counts old new takes advances;
   permitted = λ kinds on. (stands_more net counts old new takes advances kinds on).taken.permitted;
   written = λ kinds on.
-      let state = state_after net (opening net) (arrivals_of_kinds kinds) in
-      (line_after net state counts ∷ [], period_more net kinds counts,
-        Tells-weaker _ _ _ _ (λ before after e. e ∙ ap (λ xs. before ++ xs) (put_line net counts stages old new period chosen advances is state on.stands)) told);
+      let state = state_after net (opening net) (arrivals_of_kinds kinds) in (
+        line_after net state counts ∷ [],
+        period_more net kinds counts,
+        Tells-weaker _ _ _ _ (λ before after e. e ∙ ap (λ xs. before ++ xs) (put_line net counts stages old new period chosen advances is state on.stands)) told,
+      );
 }
 
 -- one that fails cuts its line short

@@ -60,7 +60,7 @@ module _ {R : Type 0} (run : Course R) where
   first_long text starts = (
     kinds_for run starts.more,
     ap (kinds_for run) starts.lines ∙ ap (λ kind. kind_for run kind ∷ kinds_for run starts.more) (kind_of_long run.net starts.raw starts.long)
-    ∙ ap (λ kind. kind ∷ kinds_for run starts.more) (stays_long run.takes_events),
+        ∙ ap (λ kind. kind ∷ kinds_for run starts.more) (stays_long run.takes_events),
   )
 
   -- nothing is read yet

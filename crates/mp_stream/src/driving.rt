@@ -27,18 +27,11 @@ pub enum End<Refusal> {
     /// The stream has more than 2^48 lines.
     LineLimit,
     /// The line has more than 2,048 bytes.
-    Long {
-        line: u64,
-    },
+    Long { line: u64 },
     /// The line is not in the grammar, or is an event where the run takes none.
-    Bad {
-        line: u64,
-    },
+    Bad { line: u64 },
     /// The run refuses the line.
-    Refused {
-        line: u64,
-        refusal: Refusal,
-    },
+    Refused { line: u64, refusal: Refusal },
 }
 
 // The end of a run that does not go on behind this line.
