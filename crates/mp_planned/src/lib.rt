@@ -1,6 +1,7 @@
 //! The laws of cyclic plans, each on a function with an empty body.
 #![tactic(auto)]
 
+ghost use Rattle.mp_planned.specs.Bounds.{OneListLaw};
 ghost use Rattle.mp_planned.specs.Plans.{PlanServesLaw, PlannedBoundLaw, PlannedCase};
 
 /// In any row of periods the greens of a plan serve the rate of each movement in all but one period
@@ -12,6 +13,12 @@ pub fn plan_serves_law()
 /// No queue of a run by a plan is above its bound (Cruz 1991; Lindley 1952 for one movement).
 pub fn planned_bound_law()
     ensures { PlannedBoundLaw }
+{}
+
+/// Without a cycle of movements there is exactly one list of bounds of which each follows from those
+/// before it.
+pub fn one_list_law()
+    ensures { OneListLaw }
 {}
 
 /// Two approaches with start queues meet the premises.
