@@ -3,3 +3,7 @@ pub mod Known
 pub mod Sums
 pub mod Among
 pub mod Firsts
+pub mod Signs
+pub mod Changed
+pub mod Cached
+mod Worked

@@ -6,6 +6,7 @@ use Rattle.std.proofs.lemmas.Bool.{false≢true}
 use Rattle.std.proofs.lemmas.List.{length-set}
 use Rattle.std.proofs.lemmas.List.FromFn.{fill_by_all}
 use Rattle.mp_model.specs.Network.{has, numbers_to, entry}
+use Rattle.mp_laws.proofs.Lists.{numbered, at_range, all_in}
 use Rattle.mp_press.specs.Written.{IsAmong, written}
 
 pub length-written : (f : ℕ → ℕ) (ks xs : List ℕ) → length (written f ks xs) ≡ length xs
@@ -41,3 +42,7 @@ map-shift f a (suc n) = ap (λ t. f (a + 1) ∷ t) (map-shift f (a + 1) n)
 -- a list that has f k at each number
 pub numbers_by_all : (f : ℕ → ℕ) (xs : List ℕ) (n : ℕ) → length xs ≡ n → ((k : ℕ) → 1 ≤ k → k ≤ n → entry xs k ≡ f k) → xs ≡ map f (numbers_to n)
 numbers_by_all f xs n size each = fill_by_all (λ i. f (i + 1)) xs n 0 size (λ i h. let back : (i + 1) - 1 ≡ i = omega arith in ap (λ t. get_or xs t 0) (sym back) ∙ each (i + 1) (omega arith) (omega arith)) ∙ map-shift f 0 n
+
+-- and such a list has f k at each number
+pub numbers_have : (f : ℕ → ℕ) (n k : ℕ) → 1 ≤ k → k ≤ n → entry (map f (numbers_to n)) k ≡ f k
+numbers_have f n k some few = numbered f n k (at_range (λ k. has (numbers_to n) k ≡ true) 1 n k some (omega arith) (all_in (numbers_to n)))

@@ -5,10 +5,15 @@
 //! Tassiulas and Ephremides (1992).
 #![tactic(auto)]
 
+mod cache;
+mod memory;
 mod queues;
+mod small;
 mod stages;
 mod weights;
 
+pub use cache::Cache;
+pub use memory::NoMemory;
 pub use queues::{behind, queue_of};
 pub use stages::{choose, choose_all};
 pub use weights::weight;

@@ -51,7 +51,7 @@ pub fn queued_on(net: &Net, queues: &[i128], l: LinkNo) -> u128
 {
     let mut sum = 0u128;
     for k in net.out_of(l) {
-        sum += u128::from(net.movement(*k).share) * queue_of(queues, *k);
+        sum += u128::from(net.turn(*k).share) * queue_of(queues, *k);
     }
     sum
 }
@@ -69,7 +69,7 @@ fn queued_among(net: &Net, j: JunctionNo, queues: &[i128], l: LinkNo) -> u128
     let next = net.next(j);
     let mut sum = 0u128;
     for k in net.out_of(l) {
-        sum += u128::from(net.movement(*k).share) * queue_among(next, queues, *k);
+        sum += u128::from(net.turn(*k).share) * queue_among(next, queues, *k);
     }
     sum
 }
@@ -82,7 +82,7 @@ pub fn behind(net: &Net, queues: &[i128], k: MovementNo) -> u128
     requires counts { AreCounts queues.now }
     ensures { result ≡ queued_downstream net.now (entry (naturals queues.now)) k }
 {
-    match net.movement(k).to {
+    match net.turn(k).to {
         None => 0,
         Some(l) => queued_on(net, queues, l),
     }
@@ -98,7 +98,7 @@ pub fn behind_among(net: &Net, j: JunctionNo, queues: &[i128], k: MovementNo) ->
     ensures value { result ≡ queued_downstream net.now (next_queue net.now j (naturals queues.now)) k }
     ensures few { result ≤ 512 * (1000 * 2 ^ 90) }
 {
-    match net.movement(k).to {
+    match net.turn(k).to {
         None => 0,
         Some(l) => queued_among(net, j, queues, l),
     }

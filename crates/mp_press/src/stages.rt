@@ -1,13 +1,14 @@
 // The stages of greatest pressure.
-ghost use Rattle.std.specs.Prelude.{◌≡◌, ◌≤◌, ◌<◌, ◌*◌, ◌-◌, ◌^◌, ℕ, All, length, sum_by, slice_set};
+ghost use Rattle.std.specs.Prelude.{◌≡◌, ◌≤◌, ◌<◌, ◌*◌, ◌-◌, ◌^◌, ℕ, [], All, length, sum_by, slice_set};
 ghost use Rattle.mp_model.specs.Network.{to_of, junction_at, entry};
 ghost use Rattle.mp_model.specs.NetworkRules.{IsAcceptable};
 ghost use Rattle.mp_model.specs.Pressure.{greatest_stage_by, IsGreatestStageBy, AllGreatest};
 ghost use Rattle.mp_model.specs.Step.{AreStages};
 ghost use Rattle.mp_model.specs.Run.{greatest_stages};
 ghost use Rattle.mp_press.specs.Queues.{naturals, AreCounts};
+ghost use Rattle.mp_press.specs.LinkSums.{AreSums};
 ghost use Rattle.mp_press.specs.Written.{IsAmong, HasEach, entry_at, written};
-ghost use Rattle.mp_press.specs.Presses.{queued_on, press_by, own_of, own_queue, next_queue, greatest_in, CanWeigh};
+ghost use Rattle.mp_press.specs.Presses.{press_by, own_of, own_queue, next_queue, greatest_in, CanWeigh};
 
 use crate::queues::{behind_among, queue_at, queue_of, queued_on};
 use crate::weights::press;
@@ -32,7 +33,7 @@ fn pressure_of(presses: &[u128], stage: &[MovementNo]) -> u128
 fn greatest(net: &Net, j: JunctionNo, presses: &[u128]) -> StageNo
     requires acceptable { IsAcceptable net.now }
     requires junction { (1 ≤ j) × (j ≤ length net.now.junctions) }
-    requires size { length presses.now ≡ 512 }
+    requires size { length net.now.movements ≤ length presses.now }
     requires few { All (λ p. p ≤ 2 ^ 110) presses.now }
     ensures { result ≡ greatest_in (junction_at net.now j) presses.now }
 {
@@ -92,48 +93,47 @@ pub fn choose(net: &Net, j: JunctionNo, own: &[i128], next: &[i128]) -> StageNo
     greatest(net, j, &presses)
 }
 
-// Writes what is queued on each link.
-fn queue_links(net: &Net, queues: &[i128], queued: &mut [u128])
+// Puts what is queued on each link.
+fn queue_links(net: &Net, queues: &[i128], queued: &mut ArrayVec<u128, 128>)
     requires acceptable { IsAcceptable net.now }
     requires len { length queues.now ≡ length net.now.movements }
     requires counts { AreCounts queues.now }
-    requires size { length queued.old ≡ 128 }
-    ensures { HasEach (queued_on net.now (entry (naturals queues.now))) (length net.now.links) queued.new }
+    requires empty { queued.old.items ≡ [] }
+    ensures { AreSums net.now (entry (naturals queues.now)) queued.new.items }
 {
     for i in 0..net.links() {
-        queued[usize::from(i)] = queued_on(net, queues, i + 1);
+        queued.push(queued_on(net, queues, i + 1));
     }
 }
 
-// What is queued on the link that a movement goes to.
-fn behind_in(net: &Net, queued: &[u128], k: MovementNo) -> u128
+/// What is queued on the link that a movement goes to.
+pub fn behind_in(net: &Net, queued: &[u128], k: MovementNo) -> u128
     requires acceptable { IsAcceptable net.now }
     requires known { (1 ≤ k) × (k ≤ length net.now.movements) }
-    requires size { length queued.now ≡ 128 }
+    requires size { length net.now.links ≤ length queued.now }
     ensures { result ≡ entry_at queued.now (to_of net.now k) }
 {
-    match net.movement(k).to {
+    match net.turn(k).to {
         None => 0,
         Some(l) => queued[usize::from(l) - 1],
     }
 }
 
-// Writes the press of each movement.
-fn press_all(net: &Net, queues: &[i128], presses: &mut [u128])
+// Puts the press of each movement.
+fn press_all(net: &Net, queues: &[i128], queued: &[u128], presses: &mut ArrayVec<u128, 512>)
     requires acceptable { IsAcceptable net.now }
     requires len { length queues.now ≡ length net.now.movements }
     requires counts { AreCounts queues.now }
-    requires size { length presses.old ≡ 512 }
-    requires few { All (λ p. p ≤ 2 ^ 110) presses.old }
-    ensures each { HasEach (press_by net.now (entry (naturals queues.now)) (entry (naturals queues.now))) (length net.now.movements) presses.new }
-    ensures few { All (λ p. p ≤ 2 ^ 110) presses.new }
+    requires queued { AreSums net.now (entry (naturals queues.now)) queued.now }
+    requires empty { presses.old.items ≡ [] }
+    ensures size { length presses.new.items ≡ length net.now.movements }
+    ensures each { HasEach (press_by net.now (entry (naturals queues.now)) (entry (naturals queues.now))) (length net.now.movements) presses.new.items }
+    ensures few { All (λ p. p ≤ 2 ^ 110) presses.new.items }
 {
-    let mut queued = [0u128; 128];
-    queue_links(net, queues, &mut queued);
     for i in 0..net.movements() {
         let k = i + 1;
-        let behind = behind_in(net, &queued, k);
-        put_press(presses, k, press(net, k, queue_of(queues, k), behind));
+        let behind = behind_in(net, queued, k);
+        presses.push(press(net, k, queue_of(queues, k), behind));
     }
 }
 
@@ -147,10 +147,13 @@ pub fn choose_all(net: &Net, queues: &[i128], into: &mut ArrayVec<StageNo, 64>)
     ensures stages { AreStages net.now.junctions into.new.items }
 {
     let _ = net.shares();
-    let mut presses = [0u128; 512];
-    press_all(net, queues, &mut presses);
+    let mut queued = ArrayVec::new();
+    queue_links(net, queues, &mut queued);
+    let mut presses = ArrayVec::new();
+    press_all(net, queues, &queued, &mut presses);
+    let presses = presses.as_slice();
     into.clear();
     for i in 0..net.junctions() {
-        into.push(greatest(net, i + 1, &presses));
+        into.push(greatest(net, i + 1, presses));
     }
 }

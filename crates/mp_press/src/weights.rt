@@ -28,7 +28,7 @@ pub fn weight(net: &Net, j: JunctionNo, own: &[i128], next: &[i128], i: usize) -
     )
 }
 
-fn difference(a: u128, b: u128) -> i128
+pub fn difference(a: u128, b: u128) -> i128
     requires { (a < 2 ^ 126) × (b < 2 ^ 126) }
     ensures { result ≡ pos a -ℤ pos b }
 {
@@ -44,5 +44,5 @@ pub fn press(net: &Net, k: MovementNo, queue: u128, behind: u128) -> u128
     ensures few { result ≤ 2 ^ 110 }
 {
     let weight = (u128::from(net.shares()) * queue).saturating_sub(behind);
-    u128::from(net.movement(k).flow) * weight
+    u128::from(net.turn(k).flow) * weight
 }

@@ -1,6 +1,5 @@
 pub mod Stages
 pub mod Moves
-pub mod Signs
 pub mod Above
 pub mod Entering
 pub mod Taking

@@ -6,7 +6,7 @@ ghost use Rattle.mp_model.specs.Pressure.{queued_downstream};
 ghost use Rattle.mp_model.specs.Step.{AreStages, passed, departing_by};
 ghost use Rattle.mp_press.specs.Queues.{naturals, AreCounts};
 ghost use Rattle.mp_press.specs.Written.{IsAmong, written};
-ghost use Rattle.mp_step.specs.LinkSums.{AreSums};
+ghost use Rattle.mp_press.specs.LinkSums.{AreSums};
 ghost use Rattle.mp_step.specs.OpenStep.{passed_open};
 ghost use Rattle.mp_step.specs.Standing.{served};
 

@@ -8,7 +8,7 @@ ghost use Rattle.mp_model.specs.declared.limits.TheConstants.{MOST_LINES};
 ghost use Rattle.mp_laws.specs.Buckets.{IsFirstAbove};
 ghost use Rattle.mp_press.specs.Queues.{naturals, AreCounts};
 ghost use Rattle.mp_step.specs.BucketLevels.{first_above, IsRoom};
-ghost use Rattle.mp_step.specs.LinkSums.{AreSums};
+ghost use Rattle.mp_press.specs.LinkSums.{AreSums};
 ghost use Rattle.mp_step.specs.OpenStep.{closed_open, open_step};
 ghost use Rattle.mp_step.specs.Standing.{Stands, IsOn, closed, shares_in, splits_of};
 ghost use Rattle.mp_step.specs.Taken.{HasTaken};

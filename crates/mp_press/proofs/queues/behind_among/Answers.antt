@@ -3,4 +3,4 @@ use Rattle.mp_press.proofs.Known.{to_known}
 use Rattle.mp_press.proofs.queues.behind_among.Goals as goal
 
 pub queued_among-requires-clause-known : goal.queued_among-requires-clause-known
-queued_among-requires-clause-known c = to_known c.args.net.now c.requires.acceptable.network c.args.k c.in-Some.l c.requires.known (sym c.movement.ensures.to ∙ c.in-Some.is)
+queued_among-requires-clause-known c = to_known c.args.net.now c.requires.acceptable.network c.args.k c.in-Some.l c.requires.known (sym c.turn.ensures.to ∙ c.in-Some.is)

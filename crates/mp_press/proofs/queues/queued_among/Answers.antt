@@ -15,8 +15,8 @@ known net l ks e i h = let all = rw (sym e) at (all_known (λ k. from_of net k =
 few : (net : Network) (l : ℕ) (ks : List ℕ) → ks ≡ out_of net l → length ks ≤ length net.movements
 few net l ks e = rw e (few_kept (λ k. from_of net k == l) (length net.movements))
 
-pub movement-requires : goal.movement-requires
-movement-requires c = known c.args.net.now c.args.l _ c.out_of-k-items.ensures c.loop-k.k-index c.loop-k-test.true
+pub turn-requires : goal.turn-requires
+turn-requires c = known c.args.net.now c.args.l _ c.out_of-k-items.ensures c.loop-k.k-index c.loop-k-test.true
 
 pub queue_among-requires-clause-ascending : goal.queue_among-requires-clause-ascending
 queue_among-requires-clause-ascending c = let net = c.args.net.now in rw c.next-next.ensures (kept_rise (λ k. has (targets net (junction_at net c.args.j)) (from_of net k)) (length net.movements))
@@ -34,7 +34,7 @@ overflow_mul-sum c =
     let share = share_few net c.requires.acceptable.network k (known net c.args.l _ c.out_of-k-items.ensures c.loop-k.k-index c.loop-k-test.true) in
     omega (
       arith,
-      fits net c.next-next.result.now (naturals c.args.queues.now) k c.from.result c.queue_among.result (c.from.ensures ∙ c.movement.ensures.share) c.queue_among.ensures
+      fits net c.next-next.result.now (naturals c.args.queues.now) k c.from.result c.queue_among.result (c.from.ensures ∙ c.turn.ensures.share) c.queue_among.ensures
           (omega (arith, share, c.requires.acceptable.range.shares)) (count_few c.next-next.result.now (naturals c.args.queues.now) k (2 ^ 90) c.requires.counts.few),
     )
 
@@ -46,10 +46,10 @@ loop-k-preserved c =
     let i = c.loop-k.k-index in
     let k = get_or ks i 0 in
     let share = share_few net c.requires.acceptable.network k (known net c.args.l ks c.out_of-k-items.ensures i c.loop-k-test.true) in
-    let most : c.from.result * c.queue_among.result ≤ 1000 * 2 ^ 90 = fits net c.next-next.result.now qs k c.from.result c.queue_among.result (c.from.ensures ∙ c.movement.ensures.share) c.queue_among.ensures
+    let most : c.from.result * c.queue_among.result ≤ 1000 * 2 ^ 90 = fits net c.next-next.result.now qs k c.from.result c.queue_among.result (c.from.ensures ∙ c.turn.ensures.share) c.queue_among.ensures
     (omega (arith, share, c.requires.acceptable.range.shares)) (count_few c.next-next.result.now qs k (2 ^ 90) c.requires.counts.few) in
     let value : c.from.result * c.queue_among.result ≡ share_of net k * next_queue net c.args.j qs k =
-    ap₂ ◌*◌ (c.from.ensures ∙ c.movement.ensures.share) (c.queue_among.ensures ∙ ap (λ ks. count_in ks qs k) c.next-next.ensures) in
+    ap₂ ◌*◌ (c.from.ensures ∙ c.turn.ensures.share) (c.queue_among.ensures ∙ ap (λ ks. count_in ks qs k) c.next-next.ensures) in
     so_far_step (λ k. share_of net k * next_queue net c.args.j qs k) ks i c.loop-k.sum (c.from.result * c.queue_among.result) (1000 * 2 ^ 90) c.loop-k-test.true value most c.loop-k.invariant.so_far c.loop-k.invariant.small
 
 pub overflow_add-sum : goal.overflow_add-sum

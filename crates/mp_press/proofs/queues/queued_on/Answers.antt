@@ -12,8 +12,8 @@ known net l ks e i h = let all = rw (sym e) at (all_known (λ k. from_of net k =
 few : (net : Network) (l : ℕ) (ks : List ℕ) → ks ≡ out_of net l → length ks ≤ length net.movements
 few net l ks e = rw e (few_kept (λ k. from_of net k == l) (length net.movements))
 
-pub movement-requires : goal.movement-requires
-movement-requires c = known c.args.net.now c.args.l _ c.out_of-k-items.ensures c.loop-k.k-index c.loop-k-test.true
+pub turn-requires : goal.turn-requires
+turn-requires c = known c.args.net.now c.args.l _ c.out_of-k-items.ensures c.loop-k.k-index c.loop-k-test.true
 
 pub queue_of-requires : goal.queue_of-requires
 queue_of-requires c = let k = known c.args.net.now c.args.l _ c.out_of-k-items.ensures c.loop-k.k-index c.loop-k-test.true in omega (arith, k, c.requires.len)
@@ -24,7 +24,7 @@ overflow_mul-sum c =
     let ks = c.out_of-k-items.result.now in
     let qs = naturals c.args.queues.now in
     let k = get_or ks c.loop-k.k-index 0 in
-    let value : c.from.result * c.queue_of.result ≡ share_of net k * entry qs k = ap₂ ◌*◌ (c.from.ensures ∙ c.movement.ensures.share) c.queue_of.ensures in
+    let value : c.from.result * c.queue_of.result ≡ share_of net k * entry qs k = ap₂ ◌*◌ (c.from.ensures ∙ c.turn.ensures.share) c.queue_of.ensures in
     let share = share_few net c.requires.acceptable.network k (known net c.args.l ks c.out_of-k-items.ensures c.loop-k.k-index c.loop-k-test.true) in
     omega (arith, value, product_fits (share_of net k) (entry qs k) (omega (arith, share, c.requires.acceptable.range.shares)) (few_at c.args.queues.now (k - 1) c.requires.counts))
 
@@ -35,7 +35,7 @@ loop-k-preserved c =
     let qs = naturals c.args.queues.now in
     let i = c.loop-k.k-index in
     let k = get_or ks i 0 in
-    let value : c.from.result * c.queue_of.result ≡ share_of net k * entry qs k = ap₂ ◌*◌ (c.from.ensures ∙ c.movement.ensures.share) c.queue_of.ensures in
+    let value : c.from.result * c.queue_of.result ≡ share_of net k * entry qs k = ap₂ ◌*◌ (c.from.ensures ∙ c.turn.ensures.share) c.queue_of.ensures in
     let share = share_few net c.requires.acceptable.network k (known net c.args.l ks c.out_of-k-items.ensures i c.loop-k-test.true) in
     let most : c.from.result * c.queue_of.result ≤ 1000 * 2 ^ 90 = omega (arith, value, product_fits (share_of net k) (entry qs k) (omega (arith, share, c.requires.acceptable.range.shares)) (few_at c.args.queues.now (k - 1) c.requires.counts)) in
     so_far_step (λ k. share_of net k * entry qs k) ks i c.loop-k.sum (c.from.result * c.queue_of.result) (1000 * 2 ^ 90) c.loop-k-test.true value most c.loop-k.invariant.so_far c.loop-k.invariant.small

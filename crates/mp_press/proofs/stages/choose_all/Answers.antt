@@ -24,7 +24,7 @@ loop-i-preserved c =
     let q = entry (naturals c.args.queues.now) in
     let i = c.loop-i.i in
     c.push.ensures.items
-    ∙ ap₂ (λ xs s. xs ++ s ∷ []) c.loop-i.invariant (c.greatest.ensures ∙ agrees net c.shares.ensures.acceptable.network q c.press_all.new.presses c.press_all.ensures.each i)
+    ∙ ap₂ (λ xs s. xs ++ s ∷ []) c.loop-i.invariant (c.greatest.ensures ∙ agrees net c.shares.ensures.acceptable.network q c.as_slice-presses.result.now (rw (sym c.as_slice-presses.ensures.value) at c.press_all.ensures.each) i)
     ∙ sym (junctions_more (greatest_stage net q) net.junctions i (omega arith))
 
 pub returns-clause-value : goal.returns-clause-value

@@ -10,8 +10,8 @@ use Rattle.mp_press.proofs.Firsts.{takes, keeps}
 use Rattle.mp_press.proofs.stages.greatest.Goals as goal
 use Rattle.mp_press.proofs.stages.greatest.Goals.{then-most-here, else-most-here}
 
-known : (net : Network) → IsAcceptable net → (j s size : ℕ) (ks : List ℕ) → ks ≡ stage_at (junction_at net j) s → size ≡ 512 → All (IsAmong size) ks
-known net ok j s size ks e h = λ i d lt. let k = rw (sym e) at (All-from_recursion (IsAmong (length net.movements)) _ (stage_known net ok.network (j - 1) s)) in let m = k i d lt in (m.0, omega (arith, m, ok.range.movements))
+known : (net : Network) → IsAcceptable net → (j s size : ℕ) (ks : List ℕ) → ks ≡ stage_at (junction_at net j) s → length net.movements ≤ size → All (IsAmong size) ks
+known net ok j s size ks e h = λ i d lt. let k = rw (sym e) at (All-from_recursion (IsAmong (length net.movements)) _ (stage_known net ok.network (j - 1) s)) in let m = k i d lt in (m.0, omega (arith, m))
 
 few : (net : Network) → IsAcceptable net → (j s : ℕ) (ks : List ℕ) → ks ≡ stage_at (junction_at net j) s → length ks ≤ 512
 few net ok j s ks e = omega (arith, ap length e, stage_few net ok.network (j - 1) s, ok.range.movements)

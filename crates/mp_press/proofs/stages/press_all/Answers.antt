@@ -1,33 +1,34 @@
-use Rattle.std.proofs.Common.{◌≡◌, ◌+◌, ◌-◌, ◌*◌, ◌∙◌, ap, ap₂, arith, length, ℕ, List, set, slice_index, Option, None, Some, refl, sum_by}
-use Rattle.std.proofs.lemmas.List.Edits.{fill_by_more}
-use Rattle.mp_model.specs.Network.{Network, entry, to_of, out_of_target, share_of, flow_of}
-use Rattle.mp_model.specs.NetworkRules.{IsNetwork}
-use Rattle.mp_model.specs.Pressure.{queued_downstream}
+use Rattle.std.proofs.Common.{◌≡◌, ◌≤◌, ◌+◌, ◌-◌, ◌*◌, ◌^◌, ◌∙◌, ap, ap₂, arith, length, ℕ, sym, [], ◌∷◌, ◌++◌, map, subst}
+use Rattle.std.specs.List.{All}
+use Rattle.std.proofs.lemmas.List.{length_push}
+use Rattle.std.proofs.lemmas.List.Elements.{All-push}
+use Rattle.std.proofs.lemmas.List.FromFn.{map-range_with_len_more}
+use Rattle.mp_model.specs.Network.{entry, numbers_to, flow_of}
 use Rattle.mp_press.specs.Queues.{naturals}
-use Rattle.mp_press.specs.Written.{HasEach, IsAmong, entry_at}
-use Rattle.mp_press.specs.Presses.{press_by, queued_on}
-use Rattle.mp_press.proofs.Known.{to_known}
+use Rattle.mp_press.specs.Presses.{press_by}
+use Rattle.mp_press.proofs.Cached.{downstream_in}
+use Rattle.mp_press.proofs.Writes.{numbers_have}
 use Rattle.mp_press.proofs.stages.press_all.Goals as goal
-
-downstream_in : (net : Network) → IsNetwork net → (q : ℕ → ℕ) (table : List ℕ) → HasEach (queued_on net q) (length net.links) table → (k : ℕ) → IsAmong (length net.movements) k → entry_at table (to_of net k) ≡ queued_downstream net q k
-downstream_in net ok q table each k h = go (to_of net k) (to_known net ok k)
-  where
-    go : (to : Option ℕ) → ((l : ℕ) → IsAmong (length net.movements) k → to ≡ Some l → IsAmong (length net.links) l) → entry_at table to ≡ sum_by (λ j. share_of net j * q j) (out_of_target net to)
-    go None t = refl
-    go (Some l) t = let i = t l h refl in each l i.0 i.1
 
 pub loop-i-preserved : goal.loop-i-preserved
 loop-i-preserved c =
     let net = c.args.net.now in
-    let q = entry (naturals c.args.queues.now) in
+    let q : ℕ → ℕ = entry (naturals c.args.queues.now) in
+    let f : ℕ → ℕ = press_by net q q in
     let i = c.loop-i.i in
     let k = i + 1 in
-    let back : k - 1 ≡ i = omega arith in
-    let down = downstream_in net c.requires.acceptable.network q c.queue_links.new.queued c.queue_links.ensures k (omega arith, omega arith) in
-    let press : c.press.result ≡ press_by net q q k = c.press.ensures.value ∙ ap₂ (λ a b. flow_of net k * (net.shares * a - b)) c.queue_of.ensures (c.behind_in-behind.ensures ∙ down) in
+    let down = downstream_in net c.requires.acceptable.network q c.args.queued.now c.requires.queued.each k (omega arith, omega arith) in
+    let press : c.press.result ≡ f k = c.press.ensures.value ∙ ap₂ (λ a b. flow_of net k * (net.shares * a - b)) c.queue_of.ensures (c.behind_in-behind.ensures ∙ down) in
     record {
-      each = λ m h. ap (λ xs. slice_index xs m) c.put_press.ensures.value
-          ∙ ap₂ (λ n v. slice_index (set c.loop-i.presses n v) m) back press
-          ∙ fill_by_more (λ m. press_by net q q (m + 1)) c.loop-i.presses i 0 (omega (arith, c.loop-i.auto.presses, c.requires.size, c.requires.acceptable.range.movements)) c.loop-i.invariant.each m h;
-      few = c.put_press.ensures.few;
+      value = c.push.ensures.items ∙ ap₂ (λ xs s. xs ++ s ∷ []) c.loop-i.invariant.value press ∙ sym (map-range_with_len_more f 1 i k (omega arith));
+      size = ap length c.push.ensures.items ∙ length_push c.loop-i.presses.items c.press.result ∙ omega (arith, c.loop-i.invariant.size);
+      few = subst (All (λ p. p ≤ 2 ^ 110)) (sym c.push.ensures.items) (All-push (λ p. p ≤ 2 ^ 110) c.loop-i.presses.items c.press.result c.loop-i.invariant.few c.press.ensures.few);
     }
+
+pub returns-clause-each : goal.returns-clause-each
+returns-clause-each c =
+    let net = c.args.net.now in
+    let q : ℕ → ℕ = entry (naturals c.args.queues.now) in
+    let f : ℕ → ℕ = press_by net q q in
+    let value : c.loop-i.presses.items ≡ map f (numbers_to (length net.movements)) = c.loop-i.invariant.value ∙ ap (λ n. map f (numbers_to n)) (omega arith) in
+    rw value (numbers_have f (length net.movements))

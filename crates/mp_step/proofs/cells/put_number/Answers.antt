@@ -2,7 +2,7 @@ use Rattle.std.proofs.Common.{◌-◌, ◌∙◌, ap₂, set, ℤ, subst, sym}
 use Rattle.std.specs.Int.{w128}
 use Rattle.std.proofs.Math.Facts.{to_z_pos}
 use Rattle.mp_press.specs.Queues.{naturals, NoneNegative}
-use Rattle.mp_step.proofs.Signs.{naturals_set, none_set}
+use Rattle.mp_press.proofs.Signs.{naturals_set, none_set}
 use Rattle.mp_step.proofs.cells.put_number.Goals as goal
 
 pub returns-clause-value : goal.returns-clause-value

@@ -3,7 +3,7 @@ use Rattle.mp_model.specs.Network.{to_of, out_of_target, share_of, entry}
 use Rattle.mp_press.proofs.Known.{to_known}
 use Rattle.mp_press.specs.Queues.{naturals}
 use Rattle.mp_press.specs.Written.{IsAmong}
-use Rattle.mp_step.specs.LinkSums.{AreSums}
+use Rattle.mp_press.specs.LinkSums.{AreSums}
 use Rattle.mp_step.proofs.passing.behind_by.Goals as goal
 
 pub overflow_sub-result : goal.overflow_sub-result

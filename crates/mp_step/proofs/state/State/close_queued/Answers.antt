@@ -3,7 +3,7 @@ use Rattle.std.proofs.lemmas.List.{with_items_is}
 use Rattle.mp_model.specs.Network.{movement_numbers, entry}
 use Rattle.mp_model.specs.Step.{passed, departing_by}
 use Rattle.mp_press.specs.Queues.{naturals}
-use Rattle.mp_step.specs.LinkSums.{AreSums}
+use Rattle.mp_press.specs.LinkSums.{AreSums}
 use Rattle.mp_step.specs.Standing.{Standing}
 use Rattle.mp_step.specs.TrafficView.{stands}
 use Rattle.mp_step.proofs.SamePasses.{stages_fit, stages_close, stages_step, ok_map}
