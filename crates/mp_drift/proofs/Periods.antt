@@ -1,5 +1,5 @@
 -- A period keeps what a session keeps.
-use Rattle.std.proofs.Common.{◌≡◌, ◌≤◌, ◌<◌, ℕ, ◌+◌, ◌-◌, ◌*◌, ◌%◌, ℤ, List, [], ◌∷◌, zero, suc, length, map, sum_by, pos, nat_abs, ◌+ℤ◌, ◌-ℤ◌, ◌*ℤ◌, true, unsigned_abs, arith, refl, sym, ◌∙◌, ap, subst}
+use Rattle.std.proofs.Common.{◌≡◌, ◌≤◌, ◌<◌, ℕ, ◌+◌, ◌-◌, ◌*◌, ◌%◌, ℤ, List, [], ◌∷◌, zero, suc, length, map, pos, nat_abs, ◌+ℤ◌, ◌-ℤ◌, ◌*ℤ◌, true, unsigned_abs, arith, refl, sym, ◌∙◌, ap, subst}
 use Rattle.std.specs.List.{AllByRecursion}
 use Rattle.std.specs.Prelude.{slice_index_or, slice_index}
 use Rattle.std.proofs.lemmas.Simd.{map-map}

@@ -1,4 +1,6 @@
 -- What a session shows, and what its type keeps.
+use Rattle.std.specs.Prelude.{◌≡◌}
+use Rattle.mp_press.specs.Weighed.{IsCacheOf}
 use Rattle.mp_drift.specs.Session.{Bounded, IsBounded}
 use Rattle.mp_drift.specs.declared.session.Session.TheInside.{Inside}
 
@@ -12,6 +14,8 @@ bounded_of s = record {
   stages = s.stages.items;
 }
 
--- A session keeps its bounds.
-abbrev pub IsSession : Inside → Type 0
-IsSession s = IsBounded (bounded_of s)
+-- A session keeps its bounds, and its cache is one of its network and stands for the queues.
+pub record IsSession (s : Inside) : Type 0 where
+  pub bounded : IsBounded (bounded_of s)
+  pub cache : IsCacheOf s.net.now s.cache
+  pub counts : s.cache.counts ≡ s.state.queues

@@ -22,7 +22,7 @@ use mp_cert::{Cert, CertFault, check, slack};
 use mp_flow::CalcFault;
 use mp_net::{JunctionNo, MovementNo, Net, StageNo};
 use mp_num::{Frac, Numbers};
-use mp_press::choose_all;
+use mp_press::Cache;
 use mp_step::{AboveAt, State};
 use std::alloc::Global;
 use std::marker::Model;
@@ -66,6 +66,8 @@ pub struct Session<'a> {
     slack: Frac,
     bound: Numbers,
     state: State,
+    // It stands for the queues of the state.
+    cache: Cache,
     // The stages of the last closed period.
     stages: ArrayVec<StageNo, 64>,
 }
@@ -112,11 +114,15 @@ impl<'a> Session<'a> {
         let Ok(state) = State::empty(alloc, net) else {
             return Err(OpenFault::NoMemory);
         };
+        let Ok(cache) = Cache::new(alloc, net) else {
+            return Err(OpenFault::NoMemory);
+        };
         Ok(Session {
             net,
             slack,
             bound,
             state,
+            cache,
             stages: ArrayVec::new(),
         })
     }
@@ -193,8 +199,10 @@ impl<'a> Session<'a> {
     {
         let _ = self.net.shares();
         let mut stages = ArrayVec::new();
-        choose_all(self.net, self.state.queues(), &mut stages);
-        self.state.close(self.net, &stages, arrivals)?;
+        self.cache.choose_all(self.net, &mut stages);
+        self.state
+            .close_queued(self.net, &stages, self.cache.queued(), arrivals)?;
+        self.cache.renew(self.net, self.state.queues());
         self.stages = stages;
         Ok(())
     }

@@ -1,4 +1,4 @@
-use Rattle.std.proofs.Common.{◌≡◌, ◌≤◌, ◌+◌, ◌*◌, ◌^◌, ap, ap₂, ◌∙◌, arith}
+use Rattle.std.proofs.Common.{◌≡◌, ◌+◌, ◌*◌, ◌^◌, ap, ap₂, ◌∙◌, arith}
 use Rattle.mp_model.specs.Network.{Movement, start_of}
 use Rattle.mp_drift.proofs.Limits.{start_few, start_square}
 use Rattle.mp_drift.proofs.Loops.{counting_more}

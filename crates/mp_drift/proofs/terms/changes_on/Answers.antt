@@ -1,11 +1,11 @@
-use Rattle.std.proofs.Common.{◌≡◌, ◌==◌, ◌≤◌, ◌<◌, ◌+◌, ◌*◌, ℕ, List, length, get_or, ap, ap₂, ◌∙◌, sym, sum_by, arith}
+use Rattle.std.proofs.Common.{◌≡◌, ◌==◌, ◌≤◌, ◌<◌, ◌*◌, ℕ, List, length, get_or, ap, ap₂, ◌∙◌, sym, arith}
 use Rattle.std.proofs.lemmas.Nat.{mul-le}
 use Rattle.mp_model.specs.Bounds.{greatest_change}
 use Rattle.mp_model.specs.Network.{Network, from_of, out_of, share_of}
 use Rattle.mp_press.proofs.Known.{all_known}
 use Rattle.mp_press.specs.Written.{IsAmong}
 use Rattle.mp_drift.proofs.Limits.{limits, few_kept}
-use Rattle.mp_drift.proofs.Loops.{summing_more, summing_end}
+use Rattle.mp_drift.proofs.Loops.{summing_more}
 use Rattle.mp_drift.proofs.terms.changes_on.Goals as goal
 
 known : (net : Network) (l : ℕ) (ks : List ℕ) → ks ≡ out_of net l → (i : ℕ) → i < length ks → IsAmong (length net.movements) (get_or ks i 0)

@@ -1,4 +1,4 @@
-use Rattle.std.proofs.Common.{◌≡◌, ℤ, pos, ◌≤ℤ◌, ◌*ℤ◌, arith, refl, sym, subst}
+use Rattle.std.proofs.Common.{◌∙◌, arith, refl, sym, subst}
 use Rattle.std.proofs.lemmas.Int.{ints}
 use Rattle.mp_model.specs.Certificate.{Certifies}
 use Rattle.mp_cert.specs.Views.{cert_of}
@@ -25,11 +25,15 @@ invariant_of-result c =
     let certifies : Certifies c.args.net.now (cert_of c.args.cert.now) = (c.in_default.ensures.accepts.0 refl).0 in
     let slack = c.slack-slack.ensures.slack (let some = certifies.excess in omega (arith, ints)) in
     record {
-      acceptable = c.shares.ensures.acceptable;
-      certified = (cert_of c.args.cert.now, certifies, slack);
-      bounds = c.in-Ok-bounds.ensures.bounds;
-      on = c.in-Ok-empty.ensures.on;
-      drift = low_at_opening c.args.net.now c.shares.ensures.acceptable.network c.in-Ok-empty.state c.in-Ok-empty.ensures.opening c.in-Ok-empty.ensures.taken (numerator c.slack-slack.result) (denominator c.slack-slack.result);
+      bounded = record {
+        acceptable = c.shares.ensures.acceptable;
+        certified = (cert_of c.args.cert.now, certifies, slack);
+        bounds = c.in-Ok-bounds.ensures.bounds;
+        on = c.in-Ok-empty.ensures.on;
+        drift = low_at_opening c.args.net.now c.shares.ensures.acceptable.network c.in-Ok-empty.state c.in-Ok-empty.ensures.opening c.in-Ok-empty.ensures.taken (numerator c.slack-slack.result) (denominator c.slack-slack.result);
+      };
+      cache = c.in-Ok-new.ensures.is;
+      counts = c.in-Ok-new.ensures.starts ∙ sym c.in-Ok-empty.ensures.opening.queues;
     }
 
 pub returns-clause-slack : goal.returns-clause-slack
