@@ -52,7 +52,7 @@ holds_none j counts owed s k not_always counted idle true e =
     absurd (omega arith)
 
 -- what is found passes, and is one of the list
-found_passes : (p : ℕ → Bool) (xs : List ℕ) (r : ℕ) → find p xs ≡ Some r → (p r ≡ true) × (has xs r ≡ true)
+pub found_passes : (p : ℕ → Bool) (xs : List ℕ) (r : ℕ) → find p xs ≡ Some r → (p r ≡ true) × (has xs r ≡ true)
 found_passes p [] r e = cc
 found_passes p (x ∷ xs) r e = go (found_passes p xs r) (p x) refl e
   where

@@ -1,0 +1,9 @@
+pub mod Lists
+pub mod Sums
+pub mod Firsts
+pub mod Wanting
+pub mod Finding
+pub mod Settling
+pub mod Guarding
+pub mod Computed
+pub mod Lacking

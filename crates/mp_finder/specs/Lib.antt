@@ -1,0 +1,4 @@
+pub mod Greens
+pub mod Finding
+pub mod Giving
+pub mod WorkedGuards
