@@ -2,7 +2,7 @@ use Rattle.std.proofs.Common.{◌≡◌, [], ◌∷◌, pos, Some, length, arith
 use Rattle.std.proofs.lemmas.List.{length-append, length-map}
 use Rattle.std.specs.Prelude.{unsigned_abs}
 use Rattle.mp_press.specs.Queues.{naturals}
-use Rattle.mp_log.proofs.CountLemmas.{comma_within, read_more, part_fails, last_more, last_fails, too_many, none_read}
+use Rattle.mp_log.proofs.CountLemmas.{place_within, read_more, part_fails, last_more, last_fails, too_many, none_read}
 use Rattle.mp_control.proofs.RowLemmas.{naturals_more, small_more, row_read, row_unread}
 use Rattle.mp_control.proofs.input.read_row.Goals as goal
 
@@ -50,4 +50,4 @@ returns-clause-none c =
     λ is. row_unread c.args.line.now c.push_count-2.new.into.items c.args.n c.len.result read (sym c.len.ensures.value) is
 
 pub behind-rest-requires : goal.behind-rest-requires
-behind-rest-requires c = comma_within c.loop-at.rest.now c.in-Some.at (search rules)
+behind-rest-requires c = place_within 44 c.loop-at.rest.now c.in-Some.at (search rules)
