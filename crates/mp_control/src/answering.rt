@@ -1,42 +1,25 @@
 //! Answers to lines of counts.
-ghost use Rattle.std.specs.Prelude.{◌≡◌, ◌≤◌, ◌<◌, ◌+◌, ◌++◌, ◌∷◌, [], length};
-ghost use Rattle.std.specs.List.{flat_map};
+ghost use Rattle.std.specs.Prelude.{◌≡◌, ◌<◌, ◌++◌, ◌∷◌, [], length};
 ghost use Rattle.mp_edge.specs.Outside.{Tells, Puts, HasCause};
 ghost use Rattle.mp_model.specs.ControlLog.{answer_of, control_end_line};
 ghost use Rattle.mp_model.specs.declared.limits.TheConstants.{MOST_LOG_LINE_BYTES};
 ghost use Rattle.mp_press.specs.Queues.{naturals};
 ghost use Rattle.mp_control.specs.Answers.{FitsAnswer};
 
-use itoa::{Buffer, Integer};
 use mp_edge::{Failed, Sink};
-use mp_log::{push_number, push_text};
+use mp_log::{push_number, push_spaced, push_text};
 use mp_net::StageNo;
-use mp_text::LineSink;
-
-// Appends a space and the digits of a number that fits.
-fn push_next<I: Integer>(line: &mut LineSink, number: I)
-    requires { length line.old.held + length (I.text number) < MOST_LOG_LINE_BYTES }
-    ensures { line.new.held ≡ line.old.held ++ 32 ∷ I.text number }
-{
-    let mut buffer = Buffer::new();
-    push_text(line, b" ");
-    push_text(line, buffer.format(number).as_bytes());
-}
-
-// Appends a space and the digits of each number, where they fit.
-fn push_spaced<I: Integer>(line: &mut LineSink, numbers: &[I])
-    requires { length line.old.held + length (flat_map (λ n. 32 ∷ I.text n) numbers.now) ≤ MOST_LOG_LINE_BYTES }
-    ensures held { line.new.held ≡ line.old.held ++ flat_map (λ n. 32 ∷ I.text n) numbers.now }
-    ensures len { length line.new.held ≡ length line.old.held + length (flat_map (λ n. 32 ∷ I.text n) numbers.now) }
-{
-    for number in numbers {
-        push_next(line, *number);
-    }
-}
+use mp_text::{LineSink, SmallNumbers};
 
 // Appends an answer without its line feed to an empty buffer: its number, the counts of the movements in
 // movement order, and the stages of the junctions in junction order.
-fn push_answer(line: &mut LineSink, number: u64, counts: &[i128], stages: &[StageNo])
+fn push_answer(
+    line: &mut LineSink,
+    small: &SmallNumbers,
+    number: u64,
+    counts: &[i128],
+    stages: &[StageNo],
+)
     requires empty { line.old.held ≡ [] }
     requires fits { FitsAnswer counts.now stages.now }
     ensures held { line.new.held ≡ answer_of number (naturals counts.now) stages.now }
@@ -45,16 +28,17 @@ fn push_answer(line: &mut LineSink, number: u64, counts: &[i128], stages: &[Stag
     push_text(line, b"c ");
     push_number(line, number);
     push_text(line, b" q");
-    push_spaced(line, counts);
+    push_spaced(line, small, counts);
     push_text(line, b" s");
-    push_spaced(line, stages);
+    push_spaced(line, small, stages);
 }
 
-/// Puts an answer in one piece, made in a buffer that serves one answer after another: its number from
-/// 1, the counts of the movements in movement order, and the stages of the junctions in junction order.
-/// `Failed` comes only from this put.
+/// Puts an answer in one piece, made in a buffer and by a table that serve one answer after another: its
+/// number from 1, the counts of the movements in movement order, and the stages of the junctions in
+/// junction order. `Failed` comes only from this put.
 pub fn put_answer<K: Sink>(
     line: &mut LineSink,
+    small: &SmallNumbers,
     out: &mut K,
     number: u64,
     counts: &[i128],
@@ -65,7 +49,7 @@ pub fn put_answer<K: Sink>(
     ensures cause { HasCause (K.faults out.old) (K.faults out.new) result }
 {
     line.clear();
-    push_answer(line, number, counts, stages);
+    push_answer(line, small, number, counts, stages);
     push_text(line, b"\n");
     out.put(line.bytes())
 }

@@ -15,7 +15,7 @@ use mp_laws::{greatest_law, one_stage_law};
 use mp_model::limits::{MOST_LINES, MOST_LOG_LINE_BYTES};
 use mp_net::{Net, StageNo};
 use mp_press::choose_all;
-use mp_text::{LineCutter, LineSink, LineStep, put_text};
+use mp_text::{LineCutter, LineSink, LineStep, SmallNumbers, put_text};
 
 /// The size of a buffer for lines of the input, each with its line feed.
 const INPUT_LINE_SIZE: usize = MOST_LOG_LINE_BYTES + 1;
@@ -54,12 +54,13 @@ enum Answered {
     Unwritten,
 }
 
-// Buffers that serve one line after another.
+// Buffers and a table that serve one line after another.
 #[derive(Drop)]
 struct Buffers {
     counts: ArrayVec<i128, 512>,
     stages: ArrayVec<StageNo, 64>,
     text: LineSink,
+    small: SmallNumbers,
 }
 
 impl Buffers {
@@ -68,6 +69,7 @@ impl Buffers {
             counts: ArrayVec::new(),
             stages: ArrayVec::new(),
             text: LineSink::new(),
+            small: SmallNumbers::new(),
         }
     }
 }
@@ -88,6 +90,7 @@ fn answer_counts<Out: Sink>(
     choose_all(net, &buffers.counts, &mut buffers.stages);
     put_answer(
         &mut buffers.text,
+        &buffers.small,
         out,
         number,
         &buffers.counts,

@@ -1,15 +1,14 @@
 //! Lines of the controller's input.
-ghost use Rattle.std.specs.Prelude.{◌≡◌, ◌==◌, ◌≤◌, ◌<◌, ◌⊎◌, ◌+◌, ◌++◌, ◌∷◌, [], ℕ, length, drop, false, IsTrue, Some, None, ◌^◌, pos};
-ghost use Rattle.std.specs.List.{list_all, position};
+ghost use Rattle.std.specs.Prelude.{◌≡◌, ◌≤◌, ◌<◌, ◌⊎◌, ◌++◌, ◌∷◌, [], ℕ, length, false, IsTrue, Some, None, ◌^◌, pos};
 ghost use Rattle.arrayvec.specs.ArrayVec.{array_vec_len};
 ghost use Rattle.mp_model.specs.ControlLog.{plain_line};
-ghost use Rattle.mp_model.specs.Stream.{is_blank, is_skipped, without_blanks_before, without_blanks_behind, count_of, read_counts};
+ghost use Rattle.mp_model.specs.Stream.{without_blanks_before, without_blanks_behind, count_of, read_counts};
 ghost use Rattle.mp_press.specs.Queues.{naturals};
 ghost use Rattle.mp_control.specs.Input.{AreSmall, IsOfLine};
 
 use arrayvec::ArrayVec;
+use mp_log::{behind, comma, is_skipped, read_blanked};
 use mp_net::Net;
-use mp_text::read_count;
 
 /// What a line of the input is.
 #[derive(Clone, Copy, Debug, PartialEq, Eq)]
@@ -20,70 +19,6 @@ pub enum InputKind {
     Counts,
     /// Not in the grammar.
     Bad,
-}
-
-fn is_blank(byte: u8) -> bool
-    ensures { result ≡ is_blank byte }
-{
-    byte == b' ' || byte == b'\t'
-}
-
-fn are_blanks(bytes: &[u8]) -> bool
-    ensures { result ≡ list_all is_blank bytes.now }
-{
-    bytes.iter().all(|b| is_blank(*b))
-}
-
-fn is_skipped(line: &[u8]) -> bool
-    ensures { result ≡ is_skipped line.now }
-{
-    match line {
-        [] => true,
-        [first, ..] => *first == b'#' || are_blanks(line),
-    }
-}
-
-// The bytes from the first that is no blank on.
-fn without_blanks_before(bytes: &[u8]) -> &[u8]
-    ensures { result.now ≡ without_blanks_before bytes.now }
-{
-    let mut rest = bytes;
-    while let [first, others @ ..] = rest {
-        if !is_blank(*first) {
-            return rest;
-        }
-        rest = others;
-    }
-    rest
-}
-
-// The bytes up to the last that is no blank.
-fn without_blanks_behind(bytes: &[u8]) -> &[u8]
-    ensures { result.now ≡ without_blanks_behind bytes.now }
-{
-    let mut end = bytes.len();
-    while end > 0 {
-        if !is_blank(bytes[end - 1]) {
-            return &bytes[..end];
-        }
-        end -= 1;
-    }
-    &bytes[..0]
-}
-
-// The place of the first comma.
-fn comma(bytes: &[u8]) -> Option<usize>
-    ensures { result ≡ position (λ b. b == 44) bytes.now }
-{
-    bytes.iter().position(|b| *b == b',')
-}
-
-// The bytes behind the one at this place.
-fn behind(bytes: &[u8], at: usize) -> &[u8]
-    requires { at < length bytes.now }
-    ensures { result.now ≡ drop (at + 1) bytes.now }
-{
-    &bytes[at + 1..]
 }
 
 fn signed(count: u64) -> i128
@@ -102,7 +37,7 @@ fn push_count(part: &[u8], n: usize, into: &mut ArrayVec<i128, 512>) -> bool
     if into.len() == n {
         return false;
     }
-    match read_count(without_blanks_behind(without_blanks_before(part))) {
+    match read_blanked(part) {
         Some(count) => {
             into.push(signed(count));
             true

@@ -14,4 +14,4 @@ pub use header::{header_lines, push_header_line, put_header, put_header_line};
 pub use line::{push_number, push_spaced, push_text};
 pub use logged::read_arrivals;
 pub use period::{push_period, put_period, put_period_in};
-pub use stream_line::{StreamLine, read_line};
+pub use stream_line::{StreamLine, behind, comma, is_skipped, read_blanked, read_line};

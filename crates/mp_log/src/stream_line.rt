@@ -1,5 +1,5 @@
 //! Lines of a stream.
-ghost use Rattle.std.specs.Prelude.{◌≡◌, ◌==◌, ◌≤◌, ◌<◌, ◌⊎◌, ◌+◌, ◌++◌, ◌∷◌, [], ℕ, length, take, drop, true, false, IsTrue, ◌↔◌, Some, None, All, ◌^◌, cond, List};
+ghost use Rattle.std.specs.Prelude.{◌≡◌, ◌==◌, ◌≤◌, ◌<◌, ◌⊎◌, ◌+◌, ◌++◌, ◌∷◌, [], ℕ, length, take, drop, true, false, IsTrue, ◌↔◌, Some, None, IfSome, All, ◌^◌, cond, List};
 ghost use Rattle.std.specs.List.{list_all, position, slice_split};
 ghost use Rattle.arrayvec.specs.ArrayVec.{array_vec_len};
 ghost use Rattle.mp_model.specs.Stream.{is_blank, is_skipped, without_blanks_before, without_blanks_behind, count_of, read_counts, plain_kind};
@@ -37,7 +37,8 @@ fn are_blanks(bytes: &[u8]) -> bool
     bytes.iter().all(|b| is_blank(*b))
 }
 
-fn is_skipped(line: &[u8]) -> bool
+/// Says whether a line is empty, of blanks alone, or a comment.
+pub fn is_skipped(line: &[u8]) -> bool
     ensures { result ≡ is_skipped line.now }
 {
     match line {
@@ -74,19 +75,27 @@ fn without_blanks_behind(bytes: &[u8]) -> &[u8]
     &bytes[..0]
 }
 
-// The place of the first comma.
-fn comma(bytes: &[u8]) -> Option<usize>
+/// The place of the first comma.
+pub fn comma(bytes: &[u8]) -> Option<usize>
     ensures { result ≡ position (λ b. b == 44) bytes.now }
 {
     bytes.iter().position(|b| *b == b',')
 }
 
-// The bytes behind the one at this place.
-pub(crate) fn behind(bytes: &[u8], at: usize) -> &[u8]
+/// The bytes behind the one at this place.
+pub fn behind(bytes: &[u8], at: usize) -> &[u8]
     requires { at < length bytes.now }
     ensures { result.now ≡ drop (at + 1) bytes.now }
 {
     &bytes[at + 1..]
+}
+
+/// The count of these bytes, with blanks round it, or `None` exactly where they are none.
+pub fn read_blanked(bytes: &[u8]) -> Option<u64>
+    ensures value { result ≡ count_of (without_blanks_behind (without_blanks_before bytes.now)) }
+    ensures few { IfSome result (λ n. n < 10 ^ 9) }
+{
+    read_count(without_blanks_behind(without_blanks_before(bytes)))
 }
 
 // Appends the count with blanks round it, where it is one and fewer than n are there.
@@ -99,7 +108,7 @@ fn push_count(part: &[u8], n: usize, into: &mut ArrayVec<u64, 128>) -> bool
     if into.len() == n {
         return false;
     }
-    match read_count(without_blanks_behind(without_blanks_before(part))) {
+    match read_blanked(part) {
         Some(count) => {
             into.push(count);
             true
