@@ -27,7 +27,7 @@ use Rattle.mp_press.proofs.Known.{has_numbers}
 use Rattle.mp_press.specs.Written.{written, IsAmong}
 use Rattle.mp_step.specs.OpenStep.{flag, passed_open}
 use Rattle.mp_step.specs.Settled.{settled}
-use Rattle.mp_step.specs.Standing.{shares_in}
+use Rattle.mp_step.specs.Standing.{served, shares_in}
 use Rattle.mp_feed.specs.Counts.{counts, gained, places_of}
 
 pub map_each : (P : ℕ → Type 0) (f : ℕ → ℕ) (xs : List ℕ) → AllByRecursion (λ x. P (f x)) xs → AllByRecursion P (map f xs)
@@ -43,6 +43,14 @@ passed_few net stages q k h = cond-few (has_green net stages k && nat_lt 0 (posi
 
 pub open_few : (net : Network) (passing : List Bool) (q : ℕ → ℕ) (k : ℕ) → flow_of net k ≤ 1000 → passed_open net passing q k ≤ 1000
 open_few net passing q k h = cond-few (flag passing k) (min (flow_of net k) (q k)) 1000 (omega arith)
+
+-- where none is queued, none passes
+cond-none : (b : Bool) (x : ℕ) → x ≡ 0 → cond b x 0 ≡ 0
+cond-none true x e = e
+cond-none false x e = refl
+
+pub none_served : (net : Network) (q : ℕ → ℕ) (k : ℕ) → q k ≡ 0 → served net q k ≡ 0
+none_served net q k e = cond-none (nat_lt 0 (positive_weight net q k)) (min (flow_of net k) (q k)) (omega arith)
 
 -- an arrival by its link's place among the fed ones
 pub count_at : (fs cs : List ℕ) (l : ℕ) → length cs ≡ length fs → count_in fs cs l ≡ get_or cs (position_or_len (λ f. f == l) fs) 0

@@ -41,7 +41,7 @@ fn behind_by(net: &Net, queued: Option<&[u128]>, queues: &[i128], k: MovementNo)
 }
 
 // What a movement passes where it has green: with a positive weight the lesser of its flow and its
-// queue.
+// queue. Where none is queued, what is behind doesn't matter, and need not be summed.
 fn serve(net: &Net, queued: Option<&[u128]>, queues: &[i128], k: MovementNo) -> u32
     requires acceptable { IsAcceptable net.now }
     requires known { (1 ≤ k) × (k ≤ length net.now.movements) }
@@ -50,7 +50,11 @@ fn serve(net: &Net, queued: Option<&[u128]>, queues: &[i128], k: MovementNo) -> 
     requires queued { IfSome queued (λ sums. AreSums net.now (entry (naturals queues.now)) sums.now) }
     ensures { result ≡ served net.now (entry (naturals queues.now)) k }
 {
-    if u128::from(net.shares()) * queue_of(queues, k) > behind_by(net, queued, queues, k) {
+    let queue = queue_of(queues, k);
+    if queue == 0 {
+        return 0;
+    }
+    if u128::from(net.shares()) * queue > behind_by(net, queued, queues, k) {
         lesser(net, queues, k)
     } else {
         0
