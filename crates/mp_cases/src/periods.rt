@@ -45,6 +45,23 @@ fn close(net: &Net, state: &mut State, counts: &[u64]) -> Result<u16, Stop>
     }
 }
 
+// Closes a period in which the movements with a flag pass: the link that is above its bucket, or 0.
+fn close_open(net: &Net, state: &mut State, flags: &[bool], counts: &[u64]) -> Result<u16, Stop>
+    requires { IsOn net.now state.old }
+    ensures { IsOn net.now state.new }
+{
+    if !is_line(net, counts)
+        || flags.len() != usize::from(net.movements())
+        || state.period() >= 1 << 48
+    {
+        return Err(Stop::Unwritten);
+    }
+    match state.close_open(net, flags, counts) {
+        Ok(()) => Ok(0),
+        Err(AboveAt { link }) => Ok(link),
+    }
+}
+
 // The period, the queues, how many entered and departed, and the room of each link.
 fn shown(alloc: Global, net: &Net, state: &State) -> Result<String, AllocError>
     requires { IsOn net.now state.now }
@@ -62,13 +79,33 @@ fn shown(alloc: Global, net: &Net, state: &State) -> Result<String, AllocError>
     Ok(text)
 }
 
-// Closes a period with these arrivals: what the state then shows, behind the link that was above its bucket, if one was.
+// The flags of a word of 0 and 1.
+fn flags_of(alloc: Global, word: &str) -> Result<Vec<bool>, AllocError> {
+    let mut flags = Vec::new(alloc);
+    for digit in word.chars() {
+        flags.push(digit == '1')?;
+    }
+    Ok(flags)
+}
+
+// Closes a period with these arrivals, or with flags and arrivals: what the state then shows, behind the link that was
+// above its bucket, if one was.
 fn row(alloc: Global, net: &Net, state: &mut State, row: &str) -> Result<String, Stop>
     requires { IsOn net.now state.old }
     ensures { IsOn net.now state.new }
 {
-    let counts = naturals(alloc, row)?;
-    let above = match close(net, state, &counts)? {
+    let above = match row.split_once(' ') {
+        None => close(net, state, &naturals(alloc, row)?)?,
+        Some((flags, counts)) => {
+            close_open(
+                net,
+                state,
+                &flags_of(alloc, flags)?,
+                &naturals(alloc, counts)?,
+            )?
+        }
+    };
+    let above = match above {
         0 => String::new(alloc),
         link => format!(in alloc; "above {link}: ")?,
     };
@@ -76,7 +113,8 @@ fn row(alloc: Global, net: &Net, state: &mut State, row: &str) -> Result<String,
     Ok(format!(in alloc; "{}{}\n", above.as_str(), shown.as_str())?)
 }
 
-/// What the state shows after each period with these arrivals, a slash between two.
+/// What the state shows after each period with these arrivals, a slash between two. Flags before the
+/// arrivals say which movements pass, in place of the stages of greatest pressure.
 pub fn periods(alloc: Global, net: &Net, rows: &str) -> Result<String, Stop> {
     let mut state = opening(alloc, net)?;
     let mut told = String::new(alloc);
