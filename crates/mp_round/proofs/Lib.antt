@@ -1,0 +1,9 @@
+pub mod Counting
+pub mod Finding
+pub mod Placing
+pub mod Outs
+pub mod Hearing
+pub mod Choices
+pub mod Deciding
+pub mod Closing
+pub mod Readying

@@ -1,0 +1,23 @@
+use Rattle.std.proofs.Common.{◌≡◌, ◌+◌, ◌-◌, ◌∙◌, None, is_none, ap, arith, get_or, length, subst, sym}
+use Rattle.mp_round.specs.Events.{closing_answer}
+use Rattle.mp_round.proofs.Placing.{decided_count}
+use Rattle.mp_round.proofs.Readying.{Readied, all_decided, performs, readies_more}
+use Rattle.mp_round.proofs.round.Round.close_all.Goals as goal
+
+pub loop-i-preserved : goal.loop-i-preserved
+loop-i-preserved c =
+    let e = c.ready.ensures in
+    let back : (c.loop-i.i + 1) - 1 ≡ c.loop-i.i = omega arith in
+    readies_more c.args.net.now c.args.self.now c.loop-i.self c.ready.new.self c.loop-i.i c.loop-i.invariant e.on e.core e.standing e.copies e.later (ap (λ n. is_none (get_or c.ready.new.self.decided n None)) (sym back) ∙ e.decided) e.earlier
+
+pub close_decided-requires-clause-decided : goal.close_decided-requires-clause-decided
+close_decided-requires-clause-decided c =
+    let net = c.args.net.now in
+    let end : c.loop-i.i ≡ length net.junctions = omega (arith, c.loop-i-test.false, c.junctions-i-end.ensures.count) in
+    all_decided net c.args.self.now c.loop-i.self (subst (λ n. Readied net c.args.self.now n c.loop-i.self) end c.loop-i.invariant) (decided_count net.junctions c.loop-i.self.decided c.loop-i.invariant.on.decided)
+
+pub returns-clause-core : goal.returns-clause-core
+returns-clause-core c =
+    let net = c.args.net.now in
+    let end : c.loop-i.i ≡ length net.junctions = omega (arith, c.loop-i-test.false, c.junctions-i-end.ensures.count) in
+    performs net c.args.self.now c.loop-i.self c.close_decided.new.self c.args.arrivals.now (closing_answer c.close_decided.result) (subst (λ n. Readied net c.args.self.now n c.loop-i.self) end c.loop-i.invariant) c.close_decided.ensures.applied
