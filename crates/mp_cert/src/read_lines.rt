@@ -83,12 +83,7 @@ impl<'a> TextLines<'a> {
 
     /// The numbers of the next line, where it has these words and then so many numbers.
     /// `TextFault::Line` names that line where it has not, and the line after the last where none is left.
-    pub fn row(
-        &mut self,
-        alloc: Global,
-        words: &[u8],
-        count: usize,
-    ) -> Result<Vec<i128>, TextFault>
+    pub fn row(&mut self, alloc: Global, words: &[u8], count: usize) -> Result<Vec<i128>, TextFault>
         requires { HasRoom self.old.number self.old.rest.now }
         ensures ok { IfOk result (λ row. ReadsRow (record { words = words.now; count = count }) row.items self.old.number self.old.rest.now self.new.number self.new.rest.now) }
         ensures fault { IfErr result (RefusesAhead (record { words = words.now; count = count }) self.old.number self.old.rest.now) }
