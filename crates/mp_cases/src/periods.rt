@@ -88,24 +88,25 @@ fn flags_of(alloc: Global, word: &str) -> Result<Vec<bool>, AllocError> {
     Ok(flags)
 }
 
-// Closes a period with these arrivals, or with flags and arrivals: what the state then shows, behind the link that was
-// above its bucket, if one was.
+// Closes a period with these arrivals, or with flags and arrivals: the link that is above its bucket, or 0.
+fn close_by(alloc: Global, net: &Net, state: &mut State, row: &str) -> Result<u16, Stop>
+    requires { IsOn net.now state.old }
+    ensures { IsOn net.now state.new }
+{
+    let Some((flags, counts)) = row.split_once(' ') else {
+        let counts = naturals(alloc, row)?;
+        return close(net, state, &counts);
+    };
+    let (flags, counts) = (flags_of(alloc, flags)?, naturals(alloc, counts)?);
+    close_open(net, state, &flags, &counts)
+}
+
+// What the state shows after such a period, behind the link that was above its bucket, if one was.
 fn row(alloc: Global, net: &Net, state: &mut State, row: &str) -> Result<String, Stop>
     requires { IsOn net.now state.old }
     ensures { IsOn net.now state.new }
 {
-    let above = match row.split_once(' ') {
-        None => close(net, state, &naturals(alloc, row)?)?,
-        Some((flags, counts)) => {
-            close_open(
-                net,
-                state,
-                &flags_of(alloc, flags)?,
-                &naturals(alloc, counts)?,
-            )?
-        }
-    };
-    let above = match above {
+    let above = match close_by(alloc, net, state, row)? {
         0 => String::new(alloc),
         link => format!(in alloc; "above {link}: ")?,
     };
