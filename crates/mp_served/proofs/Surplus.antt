@@ -16,16 +16,16 @@ rounds_add : (W w a c u v r e s t : ℕ) → s ≡ w * (a + c) + v → t ≡ w *
 rounds_add W w a c u v r e s t x y h = omega (arith, ap (λ n. W * n) x, ap (λ n. W * n) y)
 
 module _ (net : Network) (ok : IsNetwork net) (k : ℕ) (in' : has (movement_numbers net) k ≡ true) where
-  split_is : IsSplit net.shares (share_of net) (out_of net (from_of net k))
+  pub split_is : IsSplit net.shares (share_of net) (out_of net (from_of net k))
   split_is = at_in (λ l. IsSplit net.shares (share_of net) (out_of net l)) (from_of net k) (link_numbers net) (at_in (λ k. has (link_numbers net) (from_of net k) ≡ true) k (movement_numbers net) in' ok.from) (link_splits net ok)
 
-  goes : (m r : ℕ) → joined net (from_of net k) (m * net.shares + r) k ≡ share_of net k * m + joined net (from_of net k) r k
+  pub goes : (m r : ℕ) → joined net (from_of net k) (m * net.shares + r) k ≡ share_of net k * m + joined net (from_of net k) r k
   goes m r =
       let split = split_is in
       at_in (λ i. split_counts net.shares (share_of net) (out_of net (from_of net k)) (m * net.shares + r) i ≡ share_of net i * m + split_counts net.shares (share_of net) (out_of net (from_of net k)) r i) k (out_of net (from_of net k))
       (has_filter (λ i. from_of net i == from_of net k) k (movement_numbers net) in' (eq-eqb (from_of net k) (from_of net k) refl)) (again net.shares (share_of net) (out_of net (from_of net k)) split.sums split.some split.distinct m r)
 
-  whole : (surplus : ℕ) → HasRoundSurplus net k surplus → HasSurplus net k surplus
+  pub whole : (surplus : ℕ) → HasRoundSurplus net k surplus → HasSurplus net k surplus
   whole surplus round n r =
       let W = net.shares in
       let a = n / W in

@@ -13,4 +13,4 @@ mod state;
 mod traffic;
 
 pub use laws::{closed_open_law, open_step_law};
-pub use state::{AboveAt, State};
+pub use state::{AboveAt, State, make_splits};

@@ -268,8 +268,8 @@ fn add_split(splits: &mut Vec<Splitter>, split: Splitter) -> Result<(), AllocErr
     Ok(())
 }
 
-// A splitter for each link.
-fn make_splits(alloc: Global, net: &Net) -> Result<Vec<Splitter>, NoMemory>
+/// A splitter for each link. `NoMemory` comes only where memory runs out.
+pub fn make_splits(alloc: Global, net: &Net) -> Result<Vec<Splitter>, NoMemory>
     ensures { IfOk result (λ v. map (λ split. split.shares) v.items ≡ splits_of net.now) }
 {
     let _ = net.shares();
