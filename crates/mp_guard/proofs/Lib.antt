@@ -3,3 +3,6 @@ pub mod PrintLemmas
 pub mod ReadLemmas
 pub mod RuleLemmas
 pub mod TextLemmas
+pub mod SurplusLemmas
+pub mod BurstLemmas
+mod Worked

@@ -1,4 +1,6 @@
+pub mod Bursts
 pub mod Checking
 pub mod GuardText
+pub mod Surpluses
 pub mod TextLaws
 pub mod Views

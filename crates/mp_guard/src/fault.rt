@@ -1,5 +1,8 @@
 //! Why a guard is refused.
-use mp_net::{JunctionNo, MovementNo, StageNo};
+ghost use Rattle.std.specs.Prelude.{◌≡◌};
+
+use mp_net::{JunctionNo, MovementNo, NoMemory as WantOfMemory, StageNo};
+use std::alloc::AllocError;
 
 /// The first rule that a guard breaks, in the order in which the rules are tried.
 #[derive(Clone, Copy, PartialEq, Eq, Debug)]
@@ -29,4 +32,33 @@ pub enum PutFault {
     NoMemory,
     /// The sink failed.
     Failed,
+}
+
+/// Why the bursts of a guard were not found.
+#[derive(Clone, Copy, PartialEq, Eq, Debug)]
+pub enum BurstFault {
+    /// None of the first sweeps leaves its list as it is.
+    Sweeps,
+    /// Memory could not be had.
+    NoMemory,
+}
+
+impl From<AllocError> for BurstFault {
+    ghost use Rattle.mp_guard.specs.declared.fault.BurstFault.TheVariants.{NoMemory};
+
+    ghost from_gives = { λ _ e. e ≡ NoMemory };
+
+    fn from(_: AllocError) -> Self {
+        BurstFault::NoMemory
+    }
+}
+
+impl From<WantOfMemory> for BurstFault {
+    ghost use Rattle.mp_guard.specs.declared.fault.BurstFault.TheVariants.{NoMemory};
+
+    ghost from_gives = { λ _ e. e ≡ NoMemory };
+
+    fn from(_: WantOfMemory) -> Self {
+        BurstFault::NoMemory
+    }
 }

@@ -7,11 +7,15 @@ mod guard;
 mod print;
 mod read;
 mod rules;
+mod surplus;
+mod sweeping;
 mod text_laws;
 
 pub use crate::checking::check;
-pub use crate::fault::{GuardFault, PutFault};
+pub use crate::fault::{BurstFault, GuardFault, PutFault};
 pub use crate::guard::Guard;
 pub use crate::print::{guard_text, put_guard};
 pub use crate::read::read_guard;
+pub use crate::surplus::surpluses;
+pub use crate::sweeping::{MOST_SWEEPS, bounds, bursts, waits};
 pub use crate::text_laws::{guard_length_law, guard_text_law};
