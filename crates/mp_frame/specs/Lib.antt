@@ -1,1 +1,2 @@
 pub mod FrameNet
+pub mod Flags

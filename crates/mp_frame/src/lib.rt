@@ -3,9 +3,11 @@
 
 mod copies;
 mod fault;
+mod laws;
 mod network;
 
 pub use fault::FrameFault;
+pub use laws::frame_flags_law;
 pub use network::frame_net;
 
 #[cfg(test)]
