@@ -7,7 +7,7 @@ use Rattle.mp_num.specs.Checked.{within}
 use Rattle.mp_num.specs.Passing.{each}
 use Rattle.mp_num.proofs.CheckedLemmas.{within_some}
 use Rattle.mp_model.specs.Certificate.{Mix}
-use Rattle.mp_guarded.proofs.Places.{at_place}
+use Rattle.mp_served.proofs.Places.{at_place}
 use Rattle.mp_trial.specs.Sweeps.{rounded_up}
 use Rattle.mp_trial.proofs.Rounding.{rounding}
 use Rattle.mp_verdict.proofs.FlowNumbers.{above_one}

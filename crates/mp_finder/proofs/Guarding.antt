@@ -10,7 +10,7 @@ use Rattle.std.proofs.lemmas.List.FromFn.{length-range_with_len, get_or-range_wi
 use Rattle.std.proofs.lemmas.Option.{option_and_then_some}
 use Rattle.mp_num.specs.Checked.{within}
 use Rattle.mp_num.proofs.OutcomeLemmas.{each_some, option_map_some}
-use Rattle.mp_guarded.proofs.Places.{at_place, junction_in}
+use Rattle.mp_served.proofs.Places.{at_place, junction_in}
 use Rattle.mp_laws.proofs.Bridge.{plain_holds, to_mix, to_plain}
 use Rattle.mp_laws.proofs.Lists.{all_in, all_places, at_in, at_number, back_one, each_in, filter_has, filter_sub, in_numbers, numbered}
 use Rattle.mp_laws.proofs.PlainCertificate.{AllServe, PlainCert, PlainMix, Holds, Balances, Serves, plain_h, plain_parts_with}

@@ -1,7 +1,7 @@
 -- What a movement wants, and which movements a junction knows.
 use Rattle.std.proofs.Common.{◌≡◌, ◌≤◌, ◌<◌, ℕ, ◌+◌, ◌-◌, ◌*◌, ◌^◌, max, true, false, cond, List, length, get_or, map, unsigned_abs, arith, sym, ◌∙◌, ap, ap₂, subst, mul-le-mul}
 use Rattle.std.specs.List.{AllByRecursion}
-use Rattle.mp_guarded.proofs.Places.{at_place}
+use Rattle.mp_served.proofs.Places.{at_place}
 use Rattle.mp_laws.proofs.Lists.{at_in}
 use Rattle.mp_model.specs.Guard.{is_always_green}
 use Rattle.mp_model.specs.Network.{Network, movement_numbers, junction_at, junction_of_movement, flow_of, own, stage_at, stands_in, entry}
