@@ -12,8 +12,8 @@ help: ## list these targets
 run: ## run two examples: with ./maxpressure where it is built, else at once as an unproved trial
 	@bash examples/run.sh
 
-build: ## prove the program and build ./maxpressure (from nothing 28 processor minutes of proofs)
-	@echo "Proving and building: from nothing 28 processor minutes of proofs, else what has changed."
+build: ## prove the program and build ./maxpressure (from nothing half an hour of processor time and more)
+	@echo "Proving and building: from nothing half an hour of processor time and more, else what has changed."
 	cd crates/maxpressure && rt run -- show ../../examples/two-links.toml > /dev/null
 	install -m 755 crates/maxpressure/out/maxpressure maxpressure
 
