@@ -10,7 +10,7 @@ use Rattle.mp_model.specs.Stream.{LineKind, arrivals_of_kinds}
 use Rattle.mp_model.specs.Stream.LineKind.{arrivals_line}
 use Rattle.mp_stream.specs.Course.{IsTaken}
 use Rattle.mp_run.specs.Running.{StartsWith, IsAboveAt, Finished, RefusedAt, RefusedAbove, HasTooMany}
-use Rattle.mp_run.proofs.CourseLemmas.{arrivals_there}
+use Rattle.mp_stream.proofs.KindLemmas.{arrivals_there}
 use Rattle.mp_run.proofs.BucketLemmas.{none_above}
 
 -- lines that go past a line above a bucket are not permitted

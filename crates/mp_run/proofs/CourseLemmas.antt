@@ -15,6 +15,7 @@ use Rattle.mp_step.specs.Standing.{Standing, Stands}
 use Rattle.mp_step.specs.Taken.{HasTaken}
 use Rattle.mp_stream.specs.Taking.{HasRoom, Takes}
 use Rattle.mp_stream.proofs.HeadLemmas as head
+use Rattle.mp_stream.proofs.KindLemmas.{arrivals_there, arrivals_skipped, few_arrivals}
 use Rattle.mp_run.specs.Running.{course_of, StandsBehind, stream_end, EndsAs}
 use Rattle.mp_run.specs.declared.run.RunEnd.{RunEnd}
 use Rattle.mp_run.specs.declared.run.RunEnd.TheVariants.{Write}
@@ -28,36 +29,6 @@ state_more net state (a ∷ A) counts = state_more net (advance net a state) A c
 pub lines_more : (net : Network) (state : State) (A : List (List ℕ)) (counts : List ℕ) → lines_from net state (A ++ counts ∷ []) ≡ lines_from net state A ++ line_after net (state_after net state A) counts ∷ []
 lines_more net state [] counts = refl
 lines_more net state (a ∷ A) counts = ap (λ ls. line_after net state a ∷ ls) (lines_more net (advance net a state) A counts)
-
--- the arrivals of a line stand between those before and those behind it
-pub arrivals_there : (kinds more : List LineKind) (counts : List ℕ) → arrivals_of_kinds (kinds ++ arrivals_line counts ∷ more) ≡ arrivals_of_kinds kinds ++ counts ∷ arrivals_of_kinds more
-arrivals_there [] more counts = refl
-arrivals_there (arrivals_line c ∷ ks) more counts = ap (λ A. c ∷ A) (arrivals_there ks more counts)
-arrivals_there (skipped_line ∷ ks) more counts = arrivals_there ks more counts
-arrivals_there (long_line ∷ ks) more counts = arrivals_there ks more counts
-arrivals_there (bad_line ∷ ks) more counts = arrivals_there ks more counts
-arrivals_there (hear_line j l ∷ ks) more counts = arrivals_there ks more counts
-arrivals_there (decide_line j ∷ ks) more counts = arrivals_there ks more counts
-
--- a skipped line gives none
-arrivals_skipped : (kinds : List LineKind) → arrivals_of_kinds (kinds ++ skipped_line ∷ []) ≡ arrivals_of_kinds kinds
-arrivals_skipped [] = refl
-arrivals_skipped (arrivals_line c ∷ ks) = ap (λ A. c ∷ A) (arrivals_skipped ks)
-arrivals_skipped (skipped_line ∷ ks) = arrivals_skipped ks
-arrivals_skipped (long_line ∷ ks) = arrivals_skipped ks
-arrivals_skipped (bad_line ∷ ks) = arrivals_skipped ks
-arrivals_skipped (hear_line j l ∷ ks) = arrivals_skipped ks
-arrivals_skipped (decide_line j ∷ ks) = arrivals_skipped ks
-
--- there are at most as many periods as lines
-few_arrivals : (kinds : List LineKind) → length (arrivals_of_kinds kinds) ≤ length kinds
-few_arrivals [] = omega arith
-few_arrivals (arrivals_line c ∷ ks) = let few = few_arrivals ks in omega arith
-few_arrivals (skipped_line ∷ ks) = let few = few_arrivals ks in omega arith
-few_arrivals (long_line ∷ ks) = let few = few_arrivals ks in omega arith
-few_arrivals (bad_line ∷ ks) = let few = few_arrivals ks in omega arith
-few_arrivals (hear_line j l ∷ ks) = let few = few_arrivals ks in omega arith
-few_arrivals (decide_line j ∷ ks) = let few = few_arrivals ks in omega arith
 
 -- the period counts the arrivals before
 periods : (net : Network) (state : State) (A : List (List ℕ)) → (state_after net state A).period ≡ state.period + length A

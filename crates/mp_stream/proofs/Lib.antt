@@ -1,3 +1,4 @@
 pub mod LineLemmas
 pub mod ProgressLemmas
 pub mod HeadLemmas
+pub mod KindLemmas

@@ -2,3 +2,4 @@ pub mod Course
 pub mod Taking
 pub mod Ends
 pub mod Progress
+pub mod Arrivals
