@@ -11,7 +11,7 @@ use Rattle.mp_model.specs.Stream.LineKind.{arrivals_line}
 use Rattle.mp_stream.specs.Course.{IsTaken}
 use Rattle.mp_run.specs.Running.{StartsWith, IsAboveAt, Finished, RefusedAt, RefusedAbove, HasTooMany}
 use Rattle.mp_stream.proofs.KindLemmas.{arrivals_there}
-use Rattle.mp_run.proofs.BucketLemmas.{none_above}
+use Rattle.mp_stream.proofs.BucketLemmas.{none_above}
 
 -- lines that go past a line above a bucket are not permitted
 not_past : (net : Network) (text : List ℕ) (n p l : ℕ) (above : IsAboveAt net text n p l) (kinds more : List LineKind) → kinds ≡ above.kinds ++ arrivals_line above.counts ∷ more → IsPermitted net (arrivals_of_kinds kinds) → ⊥

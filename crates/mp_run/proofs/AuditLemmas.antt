@@ -34,7 +34,7 @@ use Rattle.mp_run.specs.declared.auditing.Logged.{Logged}
 use Rattle.mp_run.specs.declared.auditing.Logged.TheVariants.{Period, End, Other, Failed}
 use Rattle.mp_run.specs.declared.auditing.AuditEnd.TheVariants.{Done, Differs, Read}
 use Rattle.mp_run.proofs.BoundLemmas.{stays_within, stages_are, naturals_are}
-use Rattle.mp_run.proofs.BucketLemmas.{none_above}
+use Rattle.mp_stream.proofs.BucketLemmas.{none_above}
 use Rattle.mp_run.proofs.LogLemmas.{small_at, line_begins, state_period}
 use Rattle.mp_run.proofs.PeriodLemmas.{stages_count, stages_small}
 use Rattle.mp_run.proofs.CourseLemmas.{state_more}

@@ -19,7 +19,7 @@ use Rattle.mp_stream.proofs.KindLemmas.{arrivals_there, arrivals_skipped, few_ar
 use Rattle.mp_run.specs.Running.{course_of, StandsBehind, stream_end, EndsAs}
 use Rattle.mp_run.specs.declared.run.RunEnd.{RunEnd}
 use Rattle.mp_run.specs.declared.run.RunEnd.TheVariants.{Write}
-use Rattle.mp_run.proofs.BucketLemmas.{permitted_empty}
+use Rattle.mp_stream.proofs.BucketLemmas.{permitted_empty}
 
 -- one more period at the end of a run
 pub state_more : (net : Network) (state : State) (A : List (List ℕ)) (counts : List ℕ) → state_after net state (A ++ counts ∷ []) ≡ advance net counts (state_after net state A)

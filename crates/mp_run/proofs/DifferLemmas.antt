@@ -21,7 +21,7 @@ use Rattle.mp_run.specs.declared.auditing.Compared.TheVariants as compared
 use Rattle.mp_run.specs.declared.auditing.Logged.TheVariants.{Period, End, Other}
 use Rattle.mp_run.specs.declared.auditing.AuditEnd.{AuditEnd}
 use Rattle.mp_run.specs.declared.auditing.AuditEnd.TheVariants.{Done, Differs, Read}
-use Rattle.mp_run.proofs.BucketLemmas.{permitted_empty}
+use Rattle.mp_stream.proofs.BucketLemmas.{permitted_empty}
 use Rattle.mp_run.proofs.LogLemmas.{next_line, not_over, none_past, header_next, state_period}
 use Rattle.mp_run.proofs.CourseLemmas.{state_more, lines_more}
 

@@ -1,6 +1,5 @@
 pub mod AboveLemmas
 pub mod BoundLemmas
-pub mod BucketLemmas
 pub mod CourseLemmas
 pub mod PeriodLemmas
 pub mod LogLemmas

@@ -16,7 +16,7 @@ use Rattle.mp_press.proofs.Among.{count_here}
 use Rattle.mp_log.specs.Logged.{BeginsPeriod}
 use Rattle.mp_log.proofs.LoggedLemmas.{one_period, period_begins}
 use Rattle.mp_run.specs.Auditing.{IsNext}
-use Rattle.mp_run.proofs.BucketLemmas.{keeps_first}
+use Rattle.mp_stream.proofs.BucketLemmas.{keeps_first}
 
 at_place : (P : ℕ → Type 0) (xs : List ℕ) (i : ℕ) → i < length xs → AllByRecursion P xs → P (get_or xs i 0)
 at_place P [] i low all = absurd (omega arith)

@@ -1,11 +1,11 @@
 -- Runs over lines of arrivals alone.
-use Rattle.std.specs.Prelude.{◌≡◌, ◌+◌, ℕ, false, List, length}
+use Rattle.std.specs.Prelude.{◌≡◌, ◌+◌, ℕ, false, List, [], ◌∷◌, length}
 use Rattle.mp_model.specs.Arrivals.{IsPermitted}
 use Rattle.mp_model.specs.Network.{Network}
 use Rattle.mp_model.specs.Stream.{LineKind, arrivals_of_kinds}
 use Rattle.mp_model.specs.Stream.LineKind.{arrivals_line}
 use Rattle.mp_laws.specs.Buckets.{IsFirstAbove}
-use Rattle.mp_stream.specs.Course.{Course}
+use Rattle.mp_stream.specs.Course.{Course, StartsWith}
 use Rattle.mp_stream.specs.declared.arrivals.AboveBucket.{AboveBucket}
 use Rattle.mp_stream.specs.declared.arrivals.ArrivalsEnd.{ArrivalsEnd}
 use Rattle.mp_stream.specs.declared.arrivals.ArrivalsEnd.TheVariants.{Done, Read, Write, LineLimit, Long, Grammar, Above}
@@ -29,6 +29,21 @@ arrivals_course net lines end_line = record {
   end_line = λ kinds. end_line (arrivals_of_kinds kinds);
   Refuses = IsAbove net;
 }
+
+-- A text starts with lines of these kinds, each of them skipped or of arrivals, and goes on with lines of the other kinds.
+abbrev pub StartsWithArrivals : Network → List ℕ → List LineKind → List LineKind → Type 0
+StartsWithArrivals net text kinds more = StartsWith (arrivals_course net (λ A. []) (λ A. [])) text kinds more
+
+-- The lines of a text before line n are taken and their arrivals are permitted, line n gives the arrivals of period p, and in it l is the least link that does not keep to its bucket.
+pub record IsAboveAt (net : Network) (text : List ℕ) (n p l : ℕ) : Type 0 where
+  pub kinds : List LineKind
+  pub counts : List ℕ
+  pub more : List LineKind
+  pub number : n ≡ length kinds + 1
+  pub period : p ≡ length (arrivals_of_kinds kinds) + 1
+  pub lines : StartsWithArrivals net text kinds (arrivals_line counts ∷ more)
+  pub permitted : IsPermitted net (arrivals_of_kinds kinds)
+  pub above : IsFirstAbove net (arrivals_of_kinds kinds) counts l
 
 -- This is the end of a run over lines of arrivals alone as that of any run over a stream.
 abbrev pub stream_end : ArrivalsEnd → End AboveBucket
