@@ -8,7 +8,7 @@ use Rattle.std.proofs.lemmas.List.Elements.{All-from_recursion, All-head, All-ta
 use Rattle.mp_model.specs.Network.{Network, movement_numbers}
 use Rattle.mp_model.specs.Bounds.{drift_constant, start_drift, queue_threshold, greatest_drift, queue_bound, IsRoot, AreBounds, HasRoom}
 use Rattle.mp_drift.specs.Stated.{fitting, unit_of, credit_sum, threshold_from, greatest_from}
-use Rattle.mp_drift.specs.Bounded.{IsFound}
+use Rattle.mp_drift.specs.Bounded.{IsReached, IsFound}
 use Rattle.mp_drift.proofs.Fitting.{fitting_is}
 
 -- a calculation that goes on finds a value before
@@ -25,13 +25,13 @@ mapped : {X Y : Type 0} (f : X → Y) (o : Option X) (y : Y) → option_map f o 
 mapped f None y h = absurd (cc)
 mapped f (Some x) y h = record { value = x; is = refl; then = h }
 
-threshold_is : (unit drift E D total : ℕ) → threshold_from unit drift E D ≡ Some total → total ≡ D * drift / (2 * (unit * unit) * E)
+threshold_is : (factor drift E D total : ℕ) → threshold_from factor drift E D ≡ Some total → total ≡ D * drift / (factor * E)
 unfolding threshold_from
-threshold_is unit drift E D total h =
-    let p = through (λ above. option_map (λ below. above / below) (fitting (2 * (unit * unit) * E))) (fitting (D * drift)) total h in
-    let q = mapped (λ below. p.value / below) (fitting (2 * (unit * unit) * E)) total p.then in
+threshold_is factor drift E D total h =
+    let p = through (λ above. option_map (λ below. above / below) (fitting (factor * E))) (fitting (D * drift)) total h in
+    let q = mapped (λ below. p.value / below) (fitting (factor * E)) total p.then in
     let above : p.value ≡ D * drift = fitting_is (D * drift) p.value p.is in
-    let below : q.value ≡ 2 * (unit * unit) * E = fitting_is (2 * (unit * unit) * E) q.value q.is in
+    let below : q.value ≡ factor * E = fitting_is (factor * E) q.value q.is in
     let quotient : p.value / q.value ≡ total = cc (q.then) in
     sym quotient ∙ ap₂ ◌/◌ above below
 
@@ -49,20 +49,28 @@ greatest_is unit credits drift starts threshold v h =
     let greater : max m.value starts ≡ v = cc (m.then) in
     sym greater ∙ ap (λ n. max n starts) risen
 
+-- what was reached is the threshold and the greatest drift value from a drift constant and a factor
+pub reached : (net : Network) (factor drift E D total vmax : ℕ) → threshold_from factor drift E D ≡ Some total → greatest_from (unit_of net) (credit_sum net) drift (start_drift net) total ≡ Some vmax → IsReached net factor drift E D total vmax
+reached net factor drift E D total vmax t g = record {
+  total_is = threshold_is factor drift E D total t;
+  vmax_is = greatest_is (unit_of net) (credit_sum net) drift (start_drift net) total vmax g;
+  stated = ap (option_and_then (greatest_from (unit_of net) (credit_sum net) drift (start_drift net))) t ∙ g;
+}
+
 -- what was found is the threshold and the greatest drift value of the model
-pub found : (net : Network) (E D total vmax : ℕ) → threshold_from (unit_of net) (drift_constant net) E D ≡ Some total → greatest_from (unit_of net) (credit_sum net) (drift_constant net) (start_drift net) total ≡ Some vmax → IsFound net E D total vmax
-found net E D total vmax t g =
-    let total_is : total ≡ queue_threshold net E D = threshold_is (unit_of net) (drift_constant net) E D total t in
+pub found : (net : Network) (E D total vmax : ℕ) → IsReached net (2 * (unit_of net * unit_of net)) (drift_constant net) E D total vmax → IsFound net E D total vmax
+found net E D total vmax r =
+    let total_is : total ≡ queue_threshold net E D = r.total_is in
     let vmax_is : vmax ≡ greatest_drift net E D =
-    greatest_is (unit_of net) (credit_sum net) (drift_constant net) (start_drift net) total vmax g
+    r.vmax_is
     ∙ ap (λ n. max ((unit_of net * n + credit_sum net) * (unit_of net * n + credit_sum net) + drift_constant net) (start_drift net)) total_is in
     record {
       total_is = total_is;
       vmax_is = vmax_is;
-      stated = ap (option_and_then (greatest_from (unit_of net) (credit_sum net) (drift_constant net) (start_drift net))) t ∙ g ∙ ap (λ n. Some n) vmax_is;
+      stated = r.stated ∙ ap (λ n. Some n) vmax_is;
     }
 
-map_pos : (f : ℕ → ℕ) (xs : List ℕ) → map (λ k. pos (f k)) xs ≡ map pos (map f xs)
+pub map_pos : (f : ℕ → ℕ) (xs : List ℕ) → map (λ k. pos (f k)) xs ≡ map pos (map f xs)
 map_pos f [] = refl
 map_pos f (x ∷ xs) = ap (λ ys. pos (f x) ∷ ys) (map_pos f xs)
 

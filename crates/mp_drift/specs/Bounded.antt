@@ -1,12 +1,18 @@
 -- What the code's bounds come to.
-use Rattle.std.specs.Prelude.{◌≡◌, ℕ, ℤ, pos, List, map, Some, None, Result, Ok, Err}
+use Rattle.std.specs.Prelude.{◌≡◌, ℕ, ◌+◌, ◌*◌, ◌/◌, max, ℤ, pos, List, map, Some, None, Result, Ok, Err}
 use Rattle.mp_model.specs.Network.{Network}
-use Rattle.mp_model.specs.Bounds.{queue_threshold, greatest_drift, AreBounds, HasRoom}
+use Rattle.mp_model.specs.Bounds.{queue_threshold, greatest_drift, start_drift, AreBounds, HasRoom}
 use Rattle.mp_flow.specs.declared.network.Place.TheVariants.{Flow, Game, Adjoint, Vector, Mix, Certificate, Bound, Room}
 use Rattle.mp_flow.specs.declared.network.CalcFault.{CalcFault}
 use Rattle.mp_flow.specs.declared.network.CalcFault.TheVariants.{Overflow, PivotLimit, NoMemory}
 use Rattle.mp_drift.specs.declared.queue_bounds.QueueBounds.{QueueBounds}
-use Rattle.mp_drift.specs.Stated.{stated_greatest}
+use Rattle.mp_drift.specs.Stated.{unit_of, credit_sum, greatest_under, stated_greatest}
+
+-- These are the queue threshold and the greatest drift value from a drift constant and a factor under the slack E/D, and the stated calculation finds them.
+pub record IsReached (net : Network) (factor drift E D total vmax : ℕ) : Type 0 where
+  pub total_is : total ≡ D * drift / (factor * E)
+  pub vmax_is : vmax ≡ max ((unit_of net * total + credit_sum net) * (unit_of net * total + credit_sum net) + drift) (start_drift net)
+  pub stated : greatest_under net factor drift E D ≡ Some vmax
 
 -- The stated calculation finds the greatest drift value under the slack E/D: nothing in it exceeds 128 bits.
 abbrev pub FindsGreatest : Network → ℕ → ℕ → Type 0

@@ -41,7 +41,7 @@ pub fn credit_of(net: &Net, k: &[i128], number: MovementNo) -> u128
 }
 
 /// The step term of movement `number`, from a list of all.
-fn step_of(net: &Net, m: &[i128], number: MovementNo) -> u128
+pub fn step_of(net: &Net, m: &[i128], number: MovementNo) -> u128
     requires known { (1 ≤ number) × (number ≤ length net.now.movements) }
     requires steps { m.now ≡ map (λ k. pos (step_term net.now k)) (movement_numbers net.now) }
     ensures value { result ≡ step_term net.now number }
@@ -68,7 +68,7 @@ fn quarters(net: &Net) -> u128
 
 /// The sum of the products of the two terms of each movement.
 #[tactic(auto, using(crate::proofs::Loops::counting, crate::proofs::Limits::product_few))]
-fn products(net: &Net, k: &[i128], m: &[i128]) -> u128
+pub fn products(net: &Net, k: &[i128], m: &[i128]) -> u128
     requires credits { k.now ≡ map (λ k. pos (credit_term net.now k)) (movement_numbers net.now) }
     requires steps { m.now ≡ map (λ k. pos (step_term net.now k)) (movement_numbers net.now) }
     ensures value { result ≡ sum_by (λ k. credit_term net.now k * step_term net.now k) (movement_numbers net.now) }
@@ -83,7 +83,7 @@ fn products(net: &Net, k: &[i128], m: &[i128]) -> u128
 
 /// The sum of the squared step terms.
 #[tactic(auto, using(crate::proofs::Loops::counting, crate::proofs::Limits::square_few))]
-fn squares(net: &Net, m: &[i128]) -> u128
+pub fn squares(net: &Net, m: &[i128]) -> u128
     requires { m.now ≡ map (λ k. pos (step_term net.now k)) (movement_numbers net.now) }
     ensures value { result ≡ sum_by (λ k. step_term net.now k * step_term net.now k) (movement_numbers net.now) }
     ensures few { result ≤ 2 ^ 91 }

@@ -4,8 +4,8 @@ ghost use Rattle.mp_model.specs.Network.{movement_numbers};
 ghost use Rattle.mp_model.specs.Bounds.{credit_term, drift_constant, start_drift, queue_threshold, greatest_drift, queue_bound, IsRoot};
 ghost use Rattle.mp_num.specs.Fraction.{Fraction, numerator, denominator};
 ghost use Rattle.mp_drift.specs.Constants.{AreConstants};
-ghost use Rattle.mp_drift.specs.Stated.{unit_of, credit_sum, stated_greatest, threshold_from, greatest_from};
-ghost use Rattle.mp_drift.specs.Bounded.{IsFound, HoldsBounds, EndsAs};
+ghost use Rattle.mp_drift.specs.Stated.{unit_of, credit_sum, greatest_under, stated_greatest, threshold_from, greatest_from};
+ghost use Rattle.mp_drift.specs.Bounded.{IsReached, IsFound, HoldsBounds, EndsAs};
 
 use crate::checked::{product, signed, sum};
 use crate::numbers::{DriftNumbers, credit_of};
@@ -82,16 +82,16 @@ fn credit_sum(net: &Net, k: &[i128]) -> u128
 
 /// The queue threshold under the slack `num` / `den`, or `None` where the calculation exceeds 128 bits.
 #[tactic(auto, using(crate::proofs::Fitting::fitting_is), unfolding(crate::specs::Stated::threshold_from))]
-fn threshold(unit: u128, drift: u128, num: u128, den: u128) -> Option<u128>
-    requires unit { (1 ≤ unit) × (unit ≤ 3600000) }
+fn threshold(factor: u128, drift: u128, num: u128, den: u128) -> Option<u128>
+    requires factor { (1 ≤ factor) × (factor < 2 ^ 127) }
     requires drift { drift < 2 ^ 127 }
     requires num { (1 ≤ num) × (num < 2 ^ 127) }
     requires den { den < 2 ^ 127 }
-    ensures value { result ≡ threshold_from unit drift num den }
+    ensures value { result ≡ threshold_from factor drift num den }
     ensures fits { IfSome result (λ n. n < 2 ^ 127) }
 {
     let above = product(den, drift)?;
-    let below = product(2 * (unit * unit), num)?;
+    let below = product(factor, num)?;
     Some(above / below)
 }
 
@@ -135,14 +135,41 @@ fn greatest(unit: u128, credits: u128, drift: u128, starts: u128, threshold: u12
     Some(greater(risen, starts))
 }
 
-/// The queue threshold and the greatest drift value.
+/// The queue threshold, in vehicles, and the greatest drift value, in the square of the share total times the rate length.
 #[derive(Clone, Copy)]
-struct Reached {
-    total: u128,
-    vmax: u128,
+pub struct Reached {
+    pub total: u128,
+    pub vmax: u128,
 }
 
 /// The queue threshold and the greatest drift value under a slack, or `None` where the calculation exceeds 128 bits.
+///
+/// `k` has the credit-and-burst terms. `drift` is the drift constant, and `factor` times the slack is how fast the
+/// drift value falls for each vehicle.
+#[tactic(auto, using(crate::proofs::Finding::reached))]
+pub fn greatest_under(
+    net: &Net,
+    k: &[i128],
+    drift: u128,
+    factor: u128,
+    slack: &Frac,
+) -> Option<Reached>
+    requires credits { k.now ≡ map (λ k. pos (credit_term net.now k)) (movement_numbers net.now) }
+    requires drift { drift < 2 ^ 127 }
+    requires factor { (1 ≤ factor) × (factor < 2 ^ 127) }
+    requires above { pos 1 ≤ℤ slack.now.num }
+    ensures found { IfSome result (λ g. IsReached net.now factor drift (numerator slack.now) (denominator slack.now) g.total g.vmax) }
+    ensures fits { IfSome result (λ g. (g.total < 2 ^ 127) × (g.vmax < 2 ^ 127)) }
+    ensures none { IfNone result (greatest_under net.now factor drift (numerator slack.now) (denominator slack.now) ≡ None) }
+{
+    let unit = unit(net);
+    let credits = credit_sum(net, k);
+    let total = threshold(factor, drift, excess_of(slack), denominator_of(slack))?;
+    let vmax = greatest(unit, credits, drift, start_drift(net), total)?;
+    Some(Reached { total, vmax })
+}
+
+/// The queue threshold and the greatest drift value by the constants of the network.
 #[tactic(auto, using(crate::proofs::Finding::found))]
 fn greatest_of(net: &Net, constants: &DriftNumbers, slack: &Frac) -> Option<Reached>
     requires constants { AreConstants net.now constants.now }
@@ -153,10 +180,8 @@ fn greatest_of(net: &Net, constants: &DriftNumbers, slack: &Frac) -> Option<Reac
 {
     let unit = unit(net);
     let drift = drift_of(net, constants);
-    let credits = credit_sum(net, constants.k.as_slice());
-    let total = threshold(unit, drift, excess_of(slack), denominator_of(slack))?;
-    let vmax = greatest(unit, credits, drift, start_drift(net), total)?;
-    Some(Reached { total, vmax })
+    let k = constants.k.as_slice();
+    greatest_under(net, k, drift, 2 * (unit * unit), slack)
 }
 
 /// The bounds, one per movement in movement order, where `root` is the whole root of the greatest drift value.
@@ -174,8 +199,8 @@ fn bound_list(alloc: Global, net: &Net, k: &[i128], root: u128) -> Result<Vec<i1
     Ok(bounds)
 }
 
-/// Each bound is at most 2^62.
-fn has_room(bounds: &[i128]) -> bool
+/// Whether each bound is at most 2^62.
+pub fn has_room(bounds: &[i128]) -> bool
     ensures { IsTrue result ↔ All (λ b. b ≤ℤ pos (2 ^ 62)) bounds.now }
 {
     bounds.iter().all(|bound| *bound <= MOST)

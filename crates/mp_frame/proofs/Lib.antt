@@ -1,3 +1,4 @@
 pub mod Copied
 pub mod Acceptable
 pub mod Flags
+pub mod Bounding

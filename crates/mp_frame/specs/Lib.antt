@@ -1,2 +1,3 @@
 pub mod FrameNet
 pub mod Flags
+pub mod FrameBounds
