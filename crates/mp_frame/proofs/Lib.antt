@@ -2,3 +2,4 @@ pub mod Copied
 pub mod Acceptable
 pub mod Flags
 pub mod Bounding
+mod Worked
