@@ -10,7 +10,7 @@ use Rattle.mp_model.specs.GuardedBursts.{quotient_up}
 use Rattle.mp_model.specs.Network.{Network, burst_before, entry, from_of, goes_to, has, into_link, link_numbers, movement_numbers, out_of, share_of, start_of, to_of}
 use Rattle.mp_model.specs.NetworkRules.{IsNetwork}
 use Rattle.mp_model.specs.Plans.{IsOnCycle, Lead, flow_before, planned_bound}
-use Rattle.mp_planned.specs.Bounds.{HasOneList}
+use Rattle.mp_planned.specs.Bounds.{ArePlannedBounds, HasOneList, formed_bounds}
 
 -- ---- the links of a chain
 abbrev Known : Network → List ℕ → Type 0
@@ -174,6 +174,19 @@ module _ (net : Network) (ok : IsNetwork net) (f : List ℕ) (d cycle : ℕ) whe
     fixed zero b e = refl
     fixed (suc n) b e = e ∙ ap again (fixed n b e)
 
+    settled_list : (b : List ℕ) → formed (suc (suc (length net.links))) b ≡ again (formed (suc (suc (length net.links))) b)
+    settled_list b = sym (ap again (formed_last (suc (length net.links)) b ∙ turned (suc (length net.links)) b) ∙ all_settled (again b) b ∙ sym (formed_last (suc (length net.links)) b))
+
+    formed_same : (n : ℕ) (b : List ℕ) → formed_bounds net f d cycle n b ≡ formed n b
+    unfolding formed again
+    formed_same zero b = refl
+    formed_same (suc n) b = ap again (formed_same n b)
+
+    settled_are : (b : List ℕ) → ArePlannedBounds net f d cycle (formed_bounds net f d cycle (suc (suc (length net.links))) b)
+    unfolding again
+    settled_are b =
+        formed_same (suc (suc (length net.links))) b ∙ settled_list b ∙ ap again (sym (formed_same (suc (suc (length net.links))) b))
+
     the_bounds : List ℕ
     the_bounds = again (formed (suc (length net.links)) [])
 
@@ -187,3 +200,8 @@ module _ (net : Network) (ok : IsNetwork net) (f : List ℕ) (d cycle : ℕ) whe
 
 pub one_list_of : (net : Network) → IsNetwork net → ((l : ℕ) → ¬ IsOnCycle net l) → (f : List ℕ) (d cycle : ℕ) → HasOneList net f d cycle
 one_list_of net ok none f d cycle = one_list net ok f d cycle none
+
+pub settled_of : (net : Network) → IsNetwork net → ((l : ℕ) → ¬ IsOnCycle net l) → (f : List ℕ) (d cycle : ℕ) (b : List ℕ) → ArePlannedBounds net f d cycle (formed_bounds net f d cycle (length net.links + 2) b)
+settled_of net ok none f d cycle b =
+    let e : suc (suc (length net.links)) ≡ length net.links + 2 = omega arith in
+    subst (λ n. ArePlannedBounds net f d cycle (formed_bounds net f d cycle n b)) e (settled_are net ok f d cycle none b)

@@ -1,7 +1,7 @@
 //! The laws of cyclic plans, each on a function with an empty body.
 #![tactic(auto)]
 
-ghost use Rattle.mp_planned.specs.Bounds.{OneListLaw};
+ghost use Rattle.mp_planned.specs.Bounds.{OneListLaw, SettledLaw};
 ghost use Rattle.mp_planned.specs.Plans.{PlanServesLaw, PlannedBoundLaw, PlannedCase};
 
 /// In any row of periods the greens of a plan serve the rate of each movement in all but one period
@@ -19,6 +19,11 @@ pub fn planned_bound_law()
 /// before it.
 pub fn one_list_law()
     ensures { OneListLaw }
+{}
+
+/// Without a cycle of movements any list is formed to the bounds in two turns more than there are links.
+pub fn settled_law()
+    ensures { SettledLaw }
 {}
 
 /// Two approaches with start queues meet the premises.
