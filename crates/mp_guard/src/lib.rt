@@ -3,6 +3,7 @@
 
 mod checking;
 mod fault;
+pub mod greens;
 mod guard;
 mod print;
 mod read;

@@ -89,10 +89,11 @@ pub fn guard_text(alloc: Global, guard: &Guard) -> Result<Vec<u8>, NoMemory>
 }
 
 /// Puts the text of the guard in one piece. `PutFault::Failed` comes only with a fault of the sink, and then a prefix of
-/// the text was appended.
+/// the text was appended; at `PutFault::NoMemory` nothing was put.
 pub fn put_guard<K: Sink>(alloc: Global, out: &mut K, guard: &Guard) -> Result<(), PutFault>
     ensures bytes { Tells (K.held out.old) (K.held out.new) (Puts result (guard_text guard.now)) }
     ensures later { K.faults out.old ≤ K.faults out.new }
+    ensures nothing { IfErr result (λ fault. fault ≡ PutFault.NoMemory → out.new ≡ out.old) }
     ensures cause { IfErr result (λ fault. fault ≡ PutFault.Failed → Rose (K.faults out.old) (K.faults out.new)) }
 {
     let Ok(text) = guard_text(alloc, guard) else {
