@@ -1,17 +1,15 @@
 -- The greens of the junctions, one after the other.
-use Rattle.std.proofs.Common.{◌≡◌, ◌≤◌, ◌<◌, ℕ, suc, ◌+◌, List, [], ◌∷◌, ◌++◌, map, drop, length, get_or, unsigned_abs, Option, Some, None, Ok, Err, Result, refl, sym, ap, subst, ◌∙◌, arith}
+use Rattle.std.proofs.Common.{◌≡◌, ◌≤◌, ◌<◌, ℕ, ◌+◌, List, [], ◌∷◌, ◌++◌, map, drop, length, Option, Ok, Err, Result, refl, sym, ap, subst, ◌∙◌, arith}
 use Rattle.std.specs.declared.vec.Vec.{Vec}
 use Rattle.std.proofs.lemmas.List.{drop_all, drop_more}
 use Rattle.std.proofs.lemmas.List.FromFn.{length-range_with_len}
-use Rattle.mp_cert.specs.Views.{cert_of}
-use Rattle.mp_cert.specs.declared.types.Cert as code
 use Rattle.mp_model.specs.Certificate.{Cert, mix_at}
+use Rattle.mp_model.specs.Guard.{Guard}
 use Rattle.mp_model.specs.Network.{Network, junction_numbers}
-use Rattle.mp_trial.specs.Trials.{Trial, Fits, Unfit, Endless, PassesIn, LimitIn, trial}
+use Rattle.mp_trial.specs.Trials.{Trial, trial}
 use Rattle.mp_finder.specs.Finding.{Finding, Guarded, by_greens, by_trial, finding, found_by, guard_with}
 use Rattle.mp_finder.specs.Giving.{GivesFinding, GivesGreens}
 use Rattle.mp_finder.specs.Greens.{all_wanted, greens_by}
-use Rattle.mp_finder.specs.declared.search.Found.{Found}
 use Rattle.mp_finder.specs.declared.fault.FindFault.{FindFault}
 use Rattle.mp_finder.specs.declared.fault.FindFault.TheVariants as fault
 use Rattle.mp_finder.proofs.Lists.{number_at}
@@ -43,7 +41,7 @@ module _ {A : Type 0} (net : Network) (C L D : ℕ) (cert : Cert) (h wants : Lis
   pub going_more : (own : Vec ℕ A) → GivesGreens C L (i + 1) here (Ok own) → Going net C L D cert h (i + 1) (now ++ own ∷ [])
   going_more own g = record { rest = going_at ∙ g onward ∙ ap (λ rows. found_by net C L D cert h rows (drop (i + 1) (junction_numbers net))) (sym (rows-append now own)) }
 
-  pub going_fault : (f : FindFault) → GivesGreens {A = A} C L (i + 1) here (Err f) → GivesFinding C L D (Err f) (found_by net C L D cert h [] (junction_numbers net))
+  pub going_fault : (f : FindFault) → GivesGreens {A = A} C L (i + 1) here (Err f) → GivesFinding (Err f) (found_by net C L D cert h [] (junction_numbers net))
   going_fault fault.NoRates g = absurd g
   going_fault fault.Sweeps g = absurd g
   going_fault (fault.Overflow j) g = going_at ∙ g onward
@@ -61,5 +59,5 @@ going_end net C L D cert h rates i now s le is =
 pub ruleset going = (going_start, going_more, going_end)
 
 -- ---- the trial
-pub finding_from : (net : Network) (C L D : ℕ) (t : Trial) (result : Result Found FindFault) → trial net D 0 ≡ t → GivesFinding C L D result (by_trial net C L D t) → GivesFinding C L D result (finding net C L D)
-finding_from net C L D t result is g = subst (λ (t : Trial). GivesFinding C L D result (by_trial net C L D t)) (sym is) g
+pub finding_from : (net : Network) (C L D : ℕ) (t : Trial) (result : Result Guard FindFault) → trial net D 0 ≡ t → GivesFinding result (by_trial net C L D t) → GivesFinding result (finding net C L D)
+finding_from net C L D t result is g = subst (λ (t : Trial). GivesFinding result (by_trial net C L D t)) (sym is) g

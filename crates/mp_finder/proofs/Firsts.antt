@@ -1,6 +1,5 @@
 -- The first greens of a junction: those of the parts of its mix.
 use Rattle.std.proofs.Common.{to_z-of_z, ◌≡◌, ◌≤◌, ◌<◌, ℕ, suc, ◌+◌, ◌*◌, List, [], ◌∷◌, ◌++◌, map, drop, length, get_or, ℤ, pos, negsuc, ◌*ℤ◌, ◌≤ℤ◌, unsigned_abs, Option, Some, None, option_map, option_and_then, refl, sym, ap, ◌∙◌, arith, append_assoc, append-nil, mul-le-mul, mul-le-mul_left}
-use Rattle.std.specs.List.{AllByRecursion}
 use Rattle.std.proofs.lemmas.Int.{ints, unsigned_abs-mul}
 use Rattle.std.proofs.lemmas.List.{drop_all, drop_more}
 use Rattle.mp_num.specs.Checked.{within}

@@ -15,7 +15,7 @@ use Rattle.mp_laws.proofs.Bridge.{plain_holds, to_mix, to_plain}
 use Rattle.mp_laws.proofs.Lists.{all_in, all_places, at_in, at_number, back_one, each_in, filter_has, filter_sub, in_numbers, numbered}
 use Rattle.mp_laws.proofs.PlainCertificate.{AllServe, PlainCert, PlainMix, Holds, Balances, Serves, plain_h, plain_parts_with}
 use Rattle.mp_laws.proofs.Sums.{terms_le}
-use Rattle.mp_model.specs.Certificate.{Cert, MeetsRules, Mix, PartRule, WholeRule, mix_at, no_mix, int_entry}
+use Rattle.mp_model.specs.Certificate.{Cert, MeetsRules, Mix, PartRule, WholeRule, mix_at, no_mix}
 use Rattle.mp_model.specs.Guard.{Guard, Guards, FlowRule, GreensFit, GuardedBalanceRule, GuardedServeRule, given, greens_at, is_always_green, sum_with}
 use Rattle.mp_model.specs.Network.{Network, Junction, no_junction, movement_numbers, junction_numbers, junction_at, junction_of_movement, from_of, share_of, flow_of, rate_before, into_link, own, stage_at, stage_numbers, stands_in, has, entry}
 use Rattle.mp_model.specs.NetworkRules.{IsAcceptable, IsNetwork}

@@ -1,14 +1,12 @@
 -- What the finder's answers say of all guards with its denominator: each of them shows that rates fit, and has at least those of the finder.
-use Rattle.std.proofs.Common.{◌≡◌, ◌≤◌, ◌<◌, ℕ, zero, suc, ◌+◌, ◌-◌, ◌*◌, Bool, true, false, cond, nat_le, Option, Some, None, Result, Ok, Err, IfOk, IfErr, List, [], ◌∷◌, ◌++◌, length, get_or, map, sum, sum_by, pos, nat_abs, unsigned_abs, arith, refl, sym, ◌∙◌, ap, subst, ⊎_elim, zero-le, mul-le-mul, mul-le-mul_left}
-use Rattle.std.specs.List.{AllByRecursion, list_all}
+use Rattle.std.proofs.Common.{◌≡◌, ◌≤◌, ◌<◌, ℕ, suc, ◌+◌, ◌-◌, ◌*◌, Bool, true, false, cond, nat_le, Option, Some, None, Result, Ok, Err, IfOk, IfErr, List, [], ◌∷◌, ◌++◌, length, get_or, map, sum, sum_by, pos, unsigned_abs, arith, refl, sym, ◌∙◌, ap, subst, mul-le-mul_left}
+use Rattle.std.specs.List.{list_all}
 use Rattle.std.proofs.lemmas.Bool.{and_parts}
-use Rattle.std.proofs.lemmas.List.{length-map}
-use Rattle.std.proofs.lemmas.List.FromFn.{length-range_with_len, get_or-range_with_len}
 use Rattle.std.proofs.lemmas.List.Sums.{sum_by-cons}
-use Rattle.mp_laws.proofs.Lists.{at_in, back_one, each_in, filter_has, filter_sub, at_number, all_in}
+use Rattle.mp_laws.proofs.Lists.{at_in, back_one, each_in, filter_has, filter_sub, at_number}
 use Rattle.mp_laws.proofs.PlainCertificate.{AllServe, PlainCert, PlainMix, Holds, Balances, Serves, plain_h, plain_parts_with}
 use Rattle.mp_model.specs.Certificate.{Cert, mix_at}
-use Rattle.mp_model.specs.Guard.{Guard, Guards, GreensFit, GuardedBalanceRule, GuardedServeRule, given, greens_at, guarded_rate, is_always_green, sum_with}
+use Rattle.mp_model.specs.Guard.{Guard, Guards, GreensFit, GuardedBalanceRule, GuardedServeRule, given, greens_at, is_always_green, sum_with}
 use Rattle.mp_model.specs.Network.{Network, Junction, no_junction, movement_numbers, junction_numbers, junction_at, junction_of_movement, flow_of, own, stands_in, has, entry}
 use Rattle.mp_model.specs.NetworkRules.{IsNetwork}
 use Rattle.mp_net.proofs.StageConverse.{holder_of}
@@ -18,11 +16,10 @@ use Rattle.mp_trial.proofs.Least.{least}
 use Rattle.mp_trial.proofs.Served.{fitting}
 use Rattle.mp_trial.proofs.Unfitness.{not_unfit}
 use Rattle.mp_trial.specs.Sweeps.{rates_after}
-use Rattle.mp_trial.specs.Trials.{Fits, Unfit, certificate_with, trial}
+use Rattle.mp_trial.specs.Trials.{Fits, Unfit, trial}
 use Rattle.mp_finder.specs.Finding.{Finding, Guarded, NoRates, FullAt, HasNoGuard, AreLeast, by_greens, finding, found_by, guard_with, taken}
-use Rattle.mp_finder.specs.Giving.{GivesFinding, guard_of}
+use Rattle.mp_finder.specs.Giving.{GivesFinding}
 use Rattle.mp_finder.specs.Greens.{all_wanted, greens_by}
-use Rattle.mp_finder.specs.declared.search.Found.{Found}
 use Rattle.mp_finder.specs.declared.fault.FindFault.{FindFault}
 use Rattle.mp_finder.specs.declared.fault.FindFault.TheVariants as fault
 use Rattle.mp_finder.proofs.Guarding.{finding_guards, full_or, same_guard}
@@ -174,16 +171,16 @@ never_no_rates net C L D cert h [] before e = cc
 never_no_rates net C L D cert h (j ∷ js) before e =
     no_rates_by C L j (greens_by net C D (all_wanted net C D h) j (mix_at cert j)) _ e (λ greens e'. never_no_rates net C L D cert h js (before ++ greens ∷ []) e')
 
-pub found_guards : (net : Network) → IsNetwork net → (C L D : ℕ) → (1 ≤ C) × (C ≤ 3600) → L ≤ 1 → (1 ≤ D) × (D ≤ 999999999) → (result : Result Found FindFault) → GivesFinding C L D result (finding net C L D) → IfOk result (λ found. Guards net (guard_of C L D found))
-found_guards net ok C L D cycle lost over (Ok found) g = finding_guards net ok C L D cycle lost over (guard_of C L D found) g
+pub found_guards : (net : Network) → IsNetwork net → (C L D : ℕ) → (1 ≤ C) × (C ≤ 3600) → L ≤ 1 → (1 ≤ D) × (D ≤ 999999999) → (result : Result Guard FindFault) → GivesFinding result (finding net C L D) → IfOk result (Guards net)
+found_guards net ok C L D cycle lost over (Ok guard) g = finding_guards net ok C L D cycle lost over guard g
 found_guards net ok C L D cycle lost over (Err f) g = tt
 
-pub found_least : (net : Network) → IsNetwork net → (C L D : ℕ) (cert : Cert) → trial net D 0 ≡ Fits cert → (result : Result Found FindFault) → GivesFinding C L D result (found_by net C L D cert (map unsigned_abs cert.h) [] (junction_numbers net)) → IfOk result (λ found. AreLeast net D found.rates.items)
-found_least net ok C L D cert t (Ok found) g = subst (AreLeast net D) (sym (found_rates net C L D cert (map unsigned_abs cert.h) (junction_numbers net) [] (guard_of C L D found) g)) (least_guards net ok D cert t)
+pub found_least : (net : Network) → IsNetwork net → (C L D : ℕ) (cert : Cert) → trial net D 0 ≡ Fits cert → (result : Result Guard FindFault) → GivesFinding result (found_by net C L D cert (map unsigned_abs cert.h) [] (junction_numbers net)) → IfOk result (λ guard. AreLeast net D guard.rates)
+found_least net ok C L D cert t (Ok guard) g = subst (AreLeast net D) (sym (found_rates net C L D cert (map unsigned_abs cert.h) (junction_numbers net) [] guard g)) (least_guards net ok D cert t)
 found_least net ok C L D cert t (Err f) g = tt
 
-pub found_none : (net : Network) (C L D : ℕ) (cert : Cert) (result : Result Found FindFault) → GivesFinding C L D result (found_by net C L D cert (map unsigned_abs cert.h) [] (junction_numbers net)) → IfErr result (λ f. f ≡ fault.NoRates → HasNoGuard net D)
-found_none net C L D cert (Ok found) g = tt
+pub found_none : (net : Network) (C L D : ℕ) (cert : Cert) (result : Result Guard FindFault) → GivesFinding result (found_by net C L D cert (map unsigned_abs cert.h) [] (junction_numbers net)) → IfErr result (λ f. f ≡ fault.NoRates → HasNoGuard net D)
+found_none net C L D cert (Ok guard) g = tt
 found_none net C L D cert (Err fault.NoRates) g = absurd (never_no_rates net C L D cert (map unsigned_abs cert.h) (junction_numbers net) [] g)
 found_none net C L D cert (Err fault.Sweeps) g = λ e. absurd (cc)
 found_none net C L D cert (Err (fault.Overflow j)) g = λ e. absurd (cc)

@@ -1,5 +1,4 @@
 pub mod Lists
-pub mod Sums
 pub mod Firsts
 pub mod Wanting
 pub mod Finding

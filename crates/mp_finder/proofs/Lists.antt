@@ -1,11 +1,10 @@
 -- Loops over lists.
-use Rattle.std.proofs.Common.{◌≡◌, ◌==◌, ◌≤◌, ◌<◌, ℕ, zero, suc, ◌+◌, ◌-◌, max, Bool, true, false, List, [], ◌∷◌, ◌++◌, map, take, drop, length, get_or, find, Option, Some, None, ℤ, pos, unsigned_abs, refl, sym, ap, ap₂, ◌∙◌, arith}
-use Rattle.std.specs.List.{fold, list_all, range_with_len}
-use Rattle.std.proofs.lemmas.List.{drop_all, drop_more, take_all, take_more, length-drop}
+use Rattle.std.proofs.Common.{◌≡◌, ◌≤◌, ◌<◌, ℕ, ◌+◌, ◌-◌, max, true, false, List, [], ◌∷◌, ◌++◌, map, take, drop, length, get_or, find, Some, None, ℤ, pos, unsigned_abs, refl, sym, ap, ap₂, ◌∙◌, arith}
+use Rattle.std.specs.List.{fold, range_with_len}
+use Rattle.std.proofs.lemmas.List.{drop_all, drop_more, take_all, take_more}
 use Rattle.std.proofs.lemmas.List.FromFn.{length-range_with_len, get_or-range_with_len}
-use Rattle.mp_model.specs.Guard.{is_always_green}
 use Rattle.mp_model.specs.Load.{greatest}
-use Rattle.mp_model.specs.Network.{Junction, numbers_to, stage_numbers, stage_at, has}
+use Rattle.mp_model.specs.Network.{Junction, numbers_to, stage_at, has}
 use Rattle.mp_scaled.proofs.Sweeping.{find_here, find_past, find_end}
 use Rattle.mp_finder.specs.Greens.{lowest_stage}
 
@@ -80,30 +79,6 @@ pub reaching_end : (f : ℕ → ℕ) (xs : List ℕ) (i most : ℕ) → Reaching
 reaching_end f xs i most s le = let none : greatest (map f (drop i xs)) ≡ 0 = ap (λ t. greatest (map f t)) (drop_all i xs le) in omega (arith, s.rest, none)
 
 pub ruleset greatest_so_far = (reaching_start, reaching_more, reaching_end)
-
--- ---- whether all stages have a movement
-pub record Always (j : Junction) (k i : ℕ) : Type 0 where
-  pub rest : is_always_green j k ≡ list_all (λ stage. has stage k) (drop i j.stages)
-
-stage_here : (j : Junction) (i : ℕ) → i < length j.stages → drop i j.stages ≡ stage_at j (i + 1) ∷ drop (i + 1) j.stages
-stage_here j i lt = let back : i ≡ (i + 1) - 1 = omega arith in drop_more j.stages i [] lt ∙ ap (λ t. get_or j.stages t [] ∷ drop (i + 1) j.stages) back
-
-pub always_start : (j : Junction) (k : ℕ) → Always j k 0
-always_start j k = record { rest = refl }
-
-test_is : (j : Junction) (k i : ℕ) (b : Bool) → i < length j.stages → has (stage_at j (i + 1)) k ≡ b → list_all (λ stage. has stage k) (drop i j.stages) ≡ list_all (λ stage. has stage k) (stage_at j (i + 1) ∷ drop (i + 1) j.stages)
-test_is j k i b lt is = ap (list_all (λ stage. has stage k)) (stage_here j i lt)
-
-pub always_more : (j : Junction) (k i : ℕ) → Always j k i → i < length j.stages → has (stage_at j (i + 1)) k ≡ true → Always j k (i + 1)
-always_more j k i s lt is = record { rest = s.rest ∙ test_is j k i true lt is ∙ rw is refl }
-
-pub always_fails : (j : Junction) (k i : ℕ) → Always j k i → i < length j.stages → has (stage_at j (i + 1)) k ≡ false → is_always_green j k ≡ false
-always_fails j k i s lt is = s.rest ∙ test_is j k i false lt is ∙ rw is refl
-
-pub always_end : (j : Junction) (k i : ℕ) → Always j k i → length j.stages ≤ i → is_always_green j k ≡ true
-always_end j k i s le = s.rest ∙ ap (list_all (λ stage. has stage k)) (drop_all i j.stages le)
-
-pub ruleset always = (always_start, always_more, always_fails, always_end)
 
 -- ---- the lowest stage of a movement
 pub record Looking (j : Junction) (k i : ℕ) : Type 0 where

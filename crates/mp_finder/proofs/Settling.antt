@@ -1,5 +1,5 @@
 -- What the greens of a junction come to: each movement is given what it wants, and no green is longer than the cycle.
-use Rattle.std.proofs.Common.{◌≡◌, ◌==◌, ◌≢◌, ◌≤◌, ◌<◌, ℕ, zero, suc, ◌+◌, ◌-◌, ◌*◌, ◌&&◌, max, Bool, true, false, cond, nat_lt, List, [], ◌∷◌, length, get_or, set, map, find, Option, Some, None, arith, refl, sym, ◌∙◌, ap, subst, ⊎_elim, zero-le, eqb-true, get_or-set_other, get_or-set_same}
+use Rattle.std.proofs.Common.{◌≡◌, ◌==◌, ◌≢◌, ◌≤◌, ◌<◌, ℕ, suc, ◌+◌, ◌-◌, ◌&&◌, max, Bool, true, false, cond, nat_lt, List, [], ◌∷◌, length, get_or, set, map, Option, Some, None, arith, refl, sym, ◌∙◌, ap, subst, ⊎_elim, zero-le, eqb-true, get_or-set_other, get_or-set_same}
 use Rattle.std.specs.List.{AllByRecursion, fold, list_any}
 use Rattle.std.proofs.lemmas.Bool.{cases_lt, cases_eq, eqb-false, false≢true, ltb-false, or_cases}
 use Rattle.std.proofs.lemmas.List.{length-set}
@@ -7,7 +7,7 @@ use Rattle.mp_guarded.proofs.Owed.{sum_with_set, found_passes}
 use Rattle.mp_laws.proofs.Lists.{AllOf-map, at_in, at_number, back_one, each_in, find_none, in_numbers}
 use Rattle.mp_model.specs.Guard.{sum_with}
 use Rattle.mp_model.specs.Load.{greatest}
-use Rattle.mp_model.specs.Network.{Junction, numbers_to, stage_at, stage_numbers, stands_in, has, entry}
+use Rattle.mp_model.specs.Network.{Junction, stage_at, stage_numbers, stands_in, has, entry}
 use Rattle.mp_finder.specs.Greens.{lack, lowered_at, lowest_stage, raised_for, with_one}
 
 -- ---- one green is written

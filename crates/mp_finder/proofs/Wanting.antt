@@ -1,5 +1,5 @@
 -- What a movement wants, and which movements a junction knows.
-use Rattle.std.proofs.Common.{◌≡◌, ◌≤◌, ◌<◌, ℕ, ◌+◌, ◌-◌, ◌*◌, ◌^◌, max, true, false, cond, List, length, get_or, map, unsigned_abs, arith, sym, ◌∙◌, ap, ap₂, subst, mul-le-mul}
+use Rattle.std.proofs.Common.{◌≡◌, ◌≤◌, ◌<◌, ℕ, ◌-◌, ◌*◌, ◌^◌, max, true, false, cond, List, length, get_or, arith, sym, ◌∙◌, ap, ap₂, subst, mul-le-mul}
 use Rattle.std.specs.List.{AllByRecursion}
 use Rattle.mp_served.proofs.Places.{at_place}
 use Rattle.mp_laws.proofs.Lists.{at_in}

@@ -46,6 +46,12 @@ by_trial net cycle lost D (LimitIn j) = LimitAt j
 abbrev pub finding : Network → ℕ → ℕ → ℕ → Finding
 finding net cycle lost D = by_trial net cycle lost D (trial net D 0)
 
+-- A guard has the cycle, the lost periods of a change and the denominator that were asked for.
+pub record IsAsked (C L D : ℕ) (guard : Guard) : Type 0 where
+  pub cycle : guard.cycle ≡ C
+  pub lost : guard.lost ≡ L
+  pub denominator : guard.denominator ≡ D
+
 -- No guard of the network has the denominator D.
 abbrev pub HasNoGuard : Network → ℕ → Type 0
 HasNoGuard net D = (guard : Guard) → Guards net guard → ¬ (guard.denominator ≡ D)

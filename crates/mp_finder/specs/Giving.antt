@@ -1,27 +1,22 @@
 -- What the code's results say of the finder.
-use Rattle.std.specs.Prelude.{◌≡◌, ◌≤◌, ◌≤ℤ◌, ◌*ℤ◌, ℕ, pos, List, map, Result, Ok, Err, Option}
+use Rattle.std.specs.Prelude.{◌≡◌, ◌≤ℤ◌, ◌*ℤ◌, ℕ, pos, List, Result, Ok, Err, Option}
 use Rattle.std.specs.List.{AllByRecursion}
 use Rattle.std.specs.declared.vec.Vec.{Vec}
 use Rattle.mp_model.specs.Certificate.{Mix}
-use Rattle.mp_model.specs.Guard as model
-use Rattle.mp_finder.specs.Finding.{Finding, Guarded, NoRates, EndlessSweeps, PassesAt, LimitAt, FullAt, by_greens, guard_with}
-use Rattle.mp_finder.specs.declared.search.Found.{Found}
+use Rattle.mp_model.specs.Guard.{Guard}
+use Rattle.mp_finder.specs.Finding.{Finding, Guarded, NoRates, EndlessSweeps, PassesAt, LimitAt, FullAt, by_greens}
 use Rattle.mp_finder.specs.declared.fault.FindFault.{FindFault}
 use Rattle.mp_finder.specs.declared.fault.FindFault.TheVariants as fault
 
--- This is the guard of what was found.
-abbrev pub guard_of : ℕ → ℕ → ℕ → Found → model.Guard
-guard_of cycle lost D found = guard_with cycle lost D found.rates.items (map (λ row. row.items) found.greens.items)
-
 -- A result gives what the finder states: its guard, or the fault that ends it; out of memory says nothing.
-abbrev pub GivesFinding : ℕ → ℕ → ℕ → Result Found FindFault → Finding → Type 0
-GivesFinding cycle lost D (Ok found) stated = stated ≡ Guarded (guard_of cycle lost D found)
-GivesFinding cycle lost D (Err fault.NoRates) stated = stated ≡ NoRates
-GivesFinding cycle lost D (Err fault.Sweeps) stated = stated ≡ EndlessSweeps
-GivesFinding cycle lost D (Err (fault.Overflow j)) stated = stated ≡ PassesAt j
-GivesFinding cycle lost D (Err (fault.PivotLimit j)) stated = stated ≡ LimitAt j
-GivesFinding cycle lost D (Err (fault.Full j)) stated = stated ≡ FullAt j
-GivesFinding cycle lost D (Err fault.NoMemory) stated = Unit {0}
+abbrev pub GivesFinding : Result Guard FindFault → Finding → Type 0
+GivesFinding (Ok guard) stated = stated ≡ Guarded guard
+GivesFinding (Err fault.NoRates) stated = stated ≡ NoRates
+GivesFinding (Err fault.Sweeps) stated = stated ≡ EndlessSweeps
+GivesFinding (Err (fault.Overflow j)) stated = stated ≡ PassesAt j
+GivesFinding (Err (fault.PivotLimit j)) stated = stated ≡ LimitAt j
+GivesFinding (Err (fault.Full j)) stated = stated ≡ FullAt j
+GivesFinding (Err fault.NoMemory) stated = Unit {0}
 
 -- A result gives how the finder goes on at junction j: with its greens, or as the junction ends it.
 abbrev pub GivesGreens : {A : Type 0} → ℕ → ℕ → ℕ → Option (List ℕ) → Result (Vec ℕ A) FindFault → Type 0

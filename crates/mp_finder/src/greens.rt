@@ -8,8 +8,9 @@ ghost use Rattle.mp_model.specs.NetworkRules.{IsAcceptable};
 ghost use Rattle.mp_finder.specs.Greens.{green_for, greens_by, greens_for, lack, lowered_at, lowest_stage, raised_for};
 ghost use Rattle.mp_finder.specs.Giving.{IsMixOver};
 
-use crate::wants::{is_in, round_up, sum_with};
+use crate::wants::round_up;
 use mp_cert::Mix;
+use mp_guard::greens::{holds, sum_with};
 use mp_net::{JunctionNo, MovementNo, Net, StageNo};
 use mp_num::mul;
 use std::alloc::{AllocError, Global};
@@ -57,7 +58,7 @@ fn lowest_stage(net: &Net, j: JunctionNo, k: MovementNo) -> Option<StageNo>
     ensures known { IfSome result (λ s. (1 ≤ s) × (s ≤ length (junction_at net.now j).stages)) }
 {
     for s in 0..net.stages(j) {
-        if is_in(net, j, s + 1, k) {
+        if holds(net, j, s + 1, k) {
             return Some(s + 1);
         }
     }

@@ -12,7 +12,7 @@ mod search;
 mod wants;
 
 pub use fault::FindFault;
-pub use search::{Found, find};
+pub use search::find;
 
 /// The finder on the worked networks.
 pub fn worked_guards()

@@ -1,30 +1,23 @@
 //! The finder of a guard.
-ghost use Rattle.std.specs.Prelude.{◌≡◌, ◌≤◌, ◌<◌, ◌≤ℤ◌, ◌+◌, ◌*◌, ◌^◌, All, IfErr, IfOk, [], cond, length, map, nat_lt, pos, unsigned_abs};
+ghost use Rattle.std.specs.Prelude.{◌≡◌, ◌≤◌, ◌<◌, ◌≤ℤ◌, ◌^◌, All, IfErr, IfOk, [], length, map, pos, unsigned_abs};
 ghost use Rattle.mp_cert.specs.Views.{cert_of, mix_of};
 ghost use Rattle.mp_model.specs.Certificate.{mix_at, MeetsRules};
 ghost use Rattle.mp_model.specs.Guard.{Guards};
 ghost use Rattle.mp_model.specs.Network.{junction_numbers};
 ghost use Rattle.mp_model.specs.NetworkRules.{IsAcceptable};
-ghost use Rattle.mp_finder.specs.Finding.{finding, found_by, taken, AreLeast, HasNoGuard};
+ghost use Rattle.mp_finder.specs.Finding.{finding, found_by, AreLeast, HasNoGuard, IsAsked};
 ghost use Rattle.mp_finder.specs.Greens.{all_wanted, greens_by};
-ghost use Rattle.mp_finder.specs.Giving.{guard_of, GivesFinding, GivesGreens};
+ghost use Rattle.mp_finder.specs.Giving.{GivesFinding, GivesGreens};
 
 use crate::FindFault;
 use crate::greens::greens_by;
 use crate::wants::all_wants;
 use mp_cert::{Cert, Mix};
+use mp_guard::Guard;
+use mp_guard::greens::taken;
 use mp_net::{JunctionNo, Net};
 use mp_scaled::{ScaleFault, try_excess};
 use std::alloc::{AllocError, Global};
-
-/// What the finder finds for a cycle, lost periods and a denominator.
-#[derive(Debug, Drop)]
-pub struct Found {
-    /// The rate of each movement: over the denominator, in vehicles per period.
-    pub rates: Vec<u128>,
-    /// The greens of each junction: a number of periods per cycle for each stage.
-    pub greens: Vec<Vec<u128>>,
-}
 
 /// The rates of the certificate.
 #[tactic(auto, using(crate::proofs::Lists::copying))]
@@ -36,33 +29,6 @@ fn rates_of(alloc: Global, cert: &Cert) -> Result<Vec<u128>, AllocError>
         rates.push(rate.unsigned_abs())?;
     }
     Ok(rates)
-}
-
-/// What a stage with this green takes of a cycle.
-fn taken_by(lost: u32, green: u128) -> u128
-    requires few { green ≤ 10 ^ 20 }
-    ensures { result ≡ green + lost * cond (nat_lt 0 green) 1 0 }
-{
-    if green > 0 {
-        green + u128::from(lost)
-    } else {
-        0
-    }
-}
-
-/// What the greens of a junction take of a cycle.
-#[tactic(auto, using(crate::proofs::Sums::taking))]
-fn taken(lost: u32, greens: &[u128]) -> u128
-    requires lost { lost ≤ 1 }
-    requires size { length greens.now ≤ 16 }
-    requires few { All (λ n. n ≤ 10 ^ 20) greens.now }
-    ensures { result ≡ taken lost greens.now }
-{
-    let mut sum = 0;
-    for green in greens {
-        sum += taken_by(lost, *green);
-    }
-    sum
 }
 
 /// The mix of the junction.
@@ -99,7 +65,7 @@ fn greens_at(
 {
     match greens_by(alloc, net, cycle, d, wants, j, mix_at(cert, j)) {
         Ok(Some(greens)) => {
-            if taken(lost, &greens) <= u128::from(cycle) {
+            if taken(u128::from(lost), &greens) <= u128::from(cycle) {
                 Ok(greens)
             } else {
                 Err(FindFault::Full { junction: j })
@@ -119,7 +85,7 @@ fn find_greens(
     lost: u32,
     d: u32,
     cert: &Cert,
-) -> Result<Found, FindFault>
+) -> Result<Guard, FindFault>
     requires acceptable { IsAcceptable net.now }
     requires cycle { cycle ≤ 3600 }
     requires lost { lost ≤ 1 }
@@ -128,7 +94,8 @@ fn find_greens(
     requires over { cert.now.d ≡ pos d }
     requires excess { pos 0 ≤ℤ cert.now.e }
     requires few { All (λ rate. rate ≤ 10 ^ 12) (map unsigned_abs cert.now.h) }
-    ensures { GivesFinding cycle lost d result (found_by net.now cycle lost d (cert_of cert.now) (map unsigned_abs cert.now.h) [] (junction_numbers net.now)) }
+    ensures calculation { GivesFinding result (found_by net.now cycle lost d (cert_of cert.now) (map unsigned_abs cert.now.h) [] (junction_numbers net.now)) }
+    ensures numbers { IfOk result (IsAsked cycle lost d) }
 {
     let Ok(rates) = rates_of(alloc, cert) else {
         return Err(FindFault::NoMemory);
@@ -147,24 +114,26 @@ fn find_greens(
             Err(fault) => return Err(fault),
         }
     }
-    Ok(Found { rates, greens })
+    let (cycle, lost, d) = (u128::from(cycle), u128::from(lost), u128::from(d));
+    Ok(Guard::new(cycle, lost, d, rates, greens))
 }
 
-/// Rates over the denominator `d` and greens for a cycle of so many periods, in which each change of stage loses
-/// `lost`: with these they are a guard of the network.
+/// The guard of the network with a cycle of so many periods, of which each change of stage loses `lost`, and the
+/// denominator `d`.
 ///
-/// The rates are the least that carry what comes: those of the trial of the excess 0. `NoRates` comes exactly where that
+/// Its rates are the least that carry what comes: those of the trial of the excess 0. `NoRates` comes exactly where that
 /// trial is unfit, `Sweeps` exactly where it ends neither way within its limit of sweeps, and `Overflow` and `PivotLimit`
 /// exactly where a junction ends it so. Then come the greens, junction by junction: `Overflow` exactly where a product for
 /// them exceeds 128 bits, and `Full` exactly where they and the lost periods don't fit into the cycle. `NoMemory` comes
 /// only where memory ran out.
-pub fn find(alloc: Global, net: &Net, cycle: u32, lost: u32, d: u32) -> Result<Found, FindFault>
+pub fn find(alloc: Global, net: &Net, cycle: u32, lost: u32, d: u32) -> Result<Guard, FindFault>
     requires cycle { (1 ≤ cycle) × (cycle ≤ 3600) }
     requires lost { lost ≤ 1 }
     requires denominator { (1 ≤ d) × (d < 10 ^ 9) }
-    ensures calculation { GivesFinding cycle lost d result (finding net.now cycle lost d) }
-    ensures guards { IfOk result (λ found. Guards net.now (guard_of cycle lost d found)) }
-    ensures least { IfOk result (λ found. AreLeast net.now d found.rates.items) }
+    ensures calculation { GivesFinding result (finding net.now cycle lost d) }
+    ensures numbers { IfOk result (IsAsked cycle lost d) }
+    ensures guards { IfOk result (Guards net.now) }
+    ensures least { IfOk result (λ guard. AreLeast net.now d guard.rates) }
     ensures none { IfErr result (λ fault. fault ≡ FindFault.NoRates → HasNoGuard net.now d) }
 {
     // A network's share total comes with what its rules say.

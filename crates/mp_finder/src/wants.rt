@@ -1,12 +1,11 @@
-//! What the movements want of a cycle, and what some greens give them.
-ghost use Rattle.std.specs.Prelude.{◌≡◌, ◌≤◌, ◌<◌, ◌^◌, All, IfOk, cond, length};
-ghost use Rattle.mp_model.specs.Guard.{is_always_green, sum_with};
-ghost use Rattle.mp_model.specs.Network.{entry, has, junction_at, stage_at};
+//! What the movements want of a cycle.
+ghost use Rattle.std.specs.Prelude.{◌≡◌, ◌≤◌, ◌<◌, ◌^◌, All, IfOk, length};
 ghost use Rattle.mp_model.specs.NetworkRules.{IsAcceptable};
 ghost use Rattle.mp_trial.specs.Sweeps.{rounded_up};
 ghost use Rattle.mp_finder.specs.Greens.{all_wanted, wanted};
 
-use mp_net::{JunctionNo, MovementNo, Net, StageNo};
+use mp_guard::greens::is_always_green;
+use mp_net::{MovementNo, Net};
 use std::alloc::{AllocError, Global};
 
 /// The first number over the second, rounded up.
@@ -16,60 +15,6 @@ pub fn round_up(over: u128, under: u128) -> u128
     ensures { result ≡ rounded_up over under }
 {
     (over + (under - 1)) / under
-}
-
-/// Whether stage `s` of the junction has the movement.
-pub fn is_in(net: &Net, j: JunctionNo, s: StageNo, k: MovementNo) -> bool
-    requires junction { (1 ≤ j) × (j ≤ length net.now.junctions) }
-    requires stage { (1 ≤ s) × (s ≤ length (junction_at net.now j).stages) }
-    ensures { result ≡ has (stage_at (junction_at net.now j) s) k }
-{
-    net.stage(j, s).contains(&k)
-}
-
-/// Whether the movement stands in every stage of the junction.
-#[tactic(auto, using(crate::proofs::Lists::always))]
-fn is_always_green(net: &Net, j: JunctionNo, k: MovementNo) -> bool
-    requires { (1 ≤ j) × (j ≤ length net.now.junctions) }
-    ensures { result ≡ is_always_green (junction_at net.now j) k }
-{
-    for s in 0..net.stages(j) {
-        if !is_in(net, j, s + 1, k) {
-            return false;
-        }
-    }
-    true
-}
-
-/// The green of stage `s` of the junction where it has the movement, and 0 where it hasn't.
-fn green_in(net: &Net, j: JunctionNo, greens: &[u128], k: MovementNo, s: StageNo) -> u128
-    requires junction { (1 ≤ j) × (j ≤ length net.now.junctions) }
-    requires size { length greens.now ≡ length (junction_at net.now j).stages }
-    requires few { All (λ n. n ≤ 10 ^ 20) greens.now }
-    requires stage { (1 ≤ s) × (s ≤ length (junction_at net.now j).stages) }
-    ensures value { result ≡ cond (has (stage_at (junction_at net.now j) s) k) (entry greens.now s) 0 }
-    ensures few { result ≤ 10 ^ 20 }
-{
-    if is_in(net, j, s, k) {
-        greens[usize::from(s) - 1]
-    } else {
-        0
-    }
-}
-
-/// The sum of the greens of the stages of the junction that have the movement.
-#[tactic(auto, using(crate::proofs::Sums::summing))]
-pub fn sum_with(net: &Net, j: JunctionNo, greens: &[u128], k: MovementNo) -> u128
-    requires junction { (1 ≤ j) × (j ≤ length net.now.junctions) }
-    requires size { length greens.now ≡ length (junction_at net.now j).stages }
-    requires few { All (λ n. n ≤ 10 ^ 20) greens.now }
-    ensures { result ≡ sum_with (junction_at net.now j).stages greens.now k }
-{
-    let mut sum = 0;
-    for s in 0..net.stages(j) {
-        sum += green_in(net, j, greens, k, s + 1);
-    }
-    sum
 }
 
 /// What the movement wants of a cycle.

@@ -1,4 +1,4 @@
-use Rattle.std.proofs.Common.{◌≡◌, ℤ, pos, ◌*ℤ◌, get_or, unsigned_abs, Some, ap₂, arith, rules}
+use Rattle.std.proofs.Common.{◌≡◌, pos, ◌*ℤ◌, get_or, unsigned_abs, Some, ap₂, arith, rules}
 use Rattle.mp_num.specs.Checked.{within}
 use Rattle.mp_cert.specs.Views.{mix_of}
 use Rattle.mp_trial.specs.Sweeps.{rounded_up}

@@ -1,4 +1,4 @@
-use Rattle.std.proofs.Common.{◌≡◌, ◌<◌, ℕ, ◌+◌, List, length, ap, arith, refl, rules, subst, sym}
+use Rattle.std.proofs.Common.{◌<◌, ℕ, ◌+◌, List, length, ap, arith, rules, subst, sym}
 use Rattle.mp_cert.specs.Views.{mix_of}
 use Rattle.mp_finder.proofs.Firsts.{Giving, giving_end, giving_fails, giving_more}
 use Rattle.mp_finder.proofs.greens.greens_for.Goals as goal

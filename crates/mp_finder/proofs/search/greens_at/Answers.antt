@@ -1,7 +1,7 @@
-use Rattle.std.proofs.Common.{◌≡◌, ◌≤◌, ◌-◌, ◌∙◌, length, ap, arith, rules, subst, sym}
+use Rattle.std.proofs.Common.{◌≤◌, ◌-◌, ◌∙◌, length, ap, arith, subst, sym}
 use Rattle.mp_cert.specs.Views.{cert_of}
 use Rattle.mp_laws.proofs.Lists.{at_index}
-use Rattle.mp_model.specs.Network.{junction_at, no_junction}
+use Rattle.mp_model.specs.Network.{no_junction}
 use Rattle.mp_press.proofs.Known.{has_numbers}
 use Rattle.mp_finder.specs.Giving.{IsMixOver}
 use Rattle.mp_finder.proofs.Guarding.{mix_over, parts_size}

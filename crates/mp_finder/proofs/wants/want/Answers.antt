@@ -1,4 +1,4 @@
-use Rattle.std.proofs.Common.{◌∙◌, ◌≡◌, ◌-◌, ◌*◌, ◌≤◌, ◌^◌, ap, ap₂, arith, mul-le-mul, sym, refl}
+use Rattle.std.proofs.Common.{◌∙◌, ◌≡◌, ◌-◌, ◌*◌, ap, ap₂, arith, mul-le-mul, sym}
 use Rattle.mp_cert.proofs.PlaceLemmas.{from_known, junction_known, junction_same}
 use Rattle.mp_model.specs.Network.{junction_of_link, junction_of_movement, flow_of, entry}
 use Rattle.mp_finder.proofs.Wanting.{unit_bounds, want_few, want_none, want_some}
