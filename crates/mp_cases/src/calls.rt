@@ -6,14 +6,15 @@ use mp_cli::top;
 use mp_edge::{MemSink, MemSource, MemStore, Store, StoreFault};
 use std::alloc::{AllocError, Global};
 
-/// What a call meets outside: the size of the stream's pieces, the calls of the store, the stream and the output
-/// that fail (0 for none), and how many bytes the failing put keeps.
+/// What a call meets outside: the size of the stream's pieces, the calls of the store, the stream, the output and
+/// the error output that fail (0 for none), and how many bytes a failing put keeps.
 #[derive(Clone, Copy)]
 pub struct Outside {
     pub piece: usize,
     pub store: u64,
     pub read: u64,
     pub write: u64,
+    pub error: u64,
     pub keep: usize,
 }
 
@@ -52,6 +53,7 @@ pub fn calm() -> Outside {
         store: 0,
         read: 0,
         write: 0,
+        error: 0,
         keep: 0,
     }
 }
@@ -72,22 +74,37 @@ fn stream_of(files: &Files, stream: &str) -> Result<Vec<u8>, AllocError> {
     }
 }
 
-/// Calls the program with the words, and the stream behind ` < `.
-pub fn call(files: &Files, outside: &Outside, case: &str) -> Result<Answer, Stop> {
-    let alloc = files.alloc();
+/// The words of a case, and the stream behind ` < `.
+pub fn parts<'a>(files: &Files, case: &'a str) -> Result<(&'a str, Vec<u8>), Stop> {
     let (words, stream) = match case.split_once(" < ") {
         Some(both) => both,
         None => (case, ""),
     };
+    Ok((words, stream_of(files, stream)?))
+}
+
+/// Calls the program with the words, and the stream behind ` < `.
+pub fn call(files: &Files, outside: &Outside, case: &str) -> Result<Answer, Stop> {
+    let (words, stream) = parts(files, case)?;
+    call_on(files, outside, words, &stream)
+}
+
+/// Calls the program with the words and the stream.
+pub fn call_on(
+    files: &Files,
+    outside: &Outside,
+    words: &str,
+    stream: &[u8],
+) -> Result<Answer, Stop> {
+    let alloc = files.alloc();
     let words = words_of(alloc, words)?;
-    let stream = stream_of(files, stream)?;
     let named = files.named(&words)?;
     let piece = outside.piece.max(1);
     let (Ok(mut store), Ok(mut input), Ok(mut out), Ok(mut err)) = (
         MemStore::new(alloc, named, &[outside.store]),
-        MemSource::new(alloc, &stream, piece, &[outside.read]),
+        MemSource::new(alloc, stream, piece, &[outside.read]),
         MemSink::new(alloc, 65536, &[(outside.write, outside.keep)]),
-        MemSink::new(alloc, 4096, &[]),
+        MemSink::new(alloc, 4096, &[(outside.error, outside.keep)]),
     ) else {
         return Err(Stop::NoMemory);
     };

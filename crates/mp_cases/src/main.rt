@@ -9,6 +9,7 @@ mod calls;
 mod certificates;
 mod delays;
 mod digits;
+mod failing;
 mod files;
 mod networks;
 mod numbers;
@@ -41,7 +42,7 @@ const TEXTS: [&str; 16] = [
     "fork-spots.rows",
 ];
 
-const SUITES: [&str; 3] = ["files.cases", "calls.cases", "crates.cases"];
+const SUITES: [&str; 4] = ["files.cases", "calls.cases", "faults.cases", "crates.cases"];
 
 fn main(rt: HostRuntime) -> io::Result<()> {
     let alloc = rt.alloc();

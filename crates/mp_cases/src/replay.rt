@@ -2,6 +2,7 @@
 
 use crate::asking::asked;
 use crate::calls::{Answer, Outside, call, call_without_memory, calm, text};
+use crate::failing::{cuts, failing};
 use crate::files::{Files, Stop, changed, lines, longer, padded, word};
 use std::alloc::Global;
 
@@ -28,6 +29,7 @@ fn outside_of(case: &str) -> Result<Outside, Stop> {
         store: number(store)?,
         read: number(read)?,
         write: number(write)?,
+        error: 0,
         keep: size(keep)?,
     })
 }
@@ -97,6 +99,8 @@ fn answered(
         "top" => tell(alloc, &call(files, outside, case)?, out),
         "full" => tell(alloc, &call_without_memory(alloc, case)?, out),
         "save" => saved(files, case, out),
+        "failing" => failing(files, case, out),
+        "cuts" => cuts(files, case, out),
         _ => {
             out.push_str(asked(files, command, case)?.as_str())?;
             Ok(())
