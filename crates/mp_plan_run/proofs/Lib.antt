@@ -1,0 +1,5 @@
+pub mod GreenLemmas
+pub mod RunLemmas
+pub mod HeadingLemmas
+pub mod CourseLemmas
+pub mod PeriodLemmas
