@@ -1,0 +1,7 @@
+pub mod Zeros
+pub mod Greens
+pub mod Advances
+pub mod Courses
+pub mod Lines
+pub mod Bounds
+pub mod Openings

@@ -1,0 +1,5 @@
+pub mod FrameNow
+pub mod FrameView
+pub mod Framed
+pub mod FramedView
+pub mod Running
