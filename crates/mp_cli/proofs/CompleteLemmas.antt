@@ -1,49 +1,52 @@
 -- Where nothing is wrong outside, a command does what was asked, or memory ran out.
-use Rattle.std.proofs.Common.{◌≡◌, ◌≤◌, ◌<◌, ◌⊎◌, ◌+◌, ◌*◌, ◌++◌, ◌∷◌, ℕ, ℤ, List, [], length, refl, sym, ◌∙◌, ap, subst, arith, Some, Result, Ok, Err, inl, inr, ⊎_elim, IsSomeAnd}
+use Rattle.std.proofs.Common.{◌≡◌, ◌≤◌, ◌<◌, ◌⊎◌, ◌*◌, ℕ, ℤ, List, length, refl, sym, ◌∙◌, ap, subst, arith, Some, None, Result, Ok, Err, inl, inr, ⊎_elim, IsSomeAnd}
 use Rattle.std.specs.declared.option.Option.{Option}
-use Rattle.std.specs.List.{AllByRecursion}
-use Rattle.std.proofs.lemmas.List.{append-nil, length-append}
 use Rattle.mp_edge.specs.Outside.{Tells, OfFile}
 use Rattle.mp_model.specs.Bounds.{AreBounds}
 use Rattle.mp_model.specs.Certificate.{Cert}
+use Rattle.mp_model.specs.Frames.{frame_network, framed_after, framed_lines_from, framed_opening}
 use Rattle.mp_model.specs.Load.{ShowsOverload, IsTight, load, capacity}
+use Rattle.mp_model.specs.Log.{end_line}
 use Rattle.mp_model.specs.Network.{Network, entry}
+use Rattle.mp_model.specs.Plans.{planned_after, planned_lines_from, Plan as PlanOfModel}
+use Rattle.mp_model.specs.Run.{opening}
 use Rattle.mp_model.specs.Slack.{IsSlack, IsGreatestSlack}
-use Rattle.mp_model.specs.Stream.{LineKind}
-use Rattle.mp_model.specs.Stream.LineKind.{long_line, bad_line}
 use Rattle.mp_model.specs.WholeLog.{DiffersAt}
 use Rattle.mp_model.specs.declared.limits.TheConstants.{MOST_FILE_BYTES}
 use Rattle.mp_cert.specs.Checking.{check_outcome}
 use Rattle.mp_cert.specs.TextMeaning.{cert_meaning, vector_meaning}
+use Rattle.mp_frame.specs.FrameNet.{frame_fault}
 use Rattle.mp_flow.specs.declared.network.Place.TheVariants as at
 use Rattle.mp_gen.specs.DemoNetwork.{demo_network}
 use Rattle.mp_netfile.specs.Meaning.{file_meaning}
-use Rattle.mp_stream.specs.Course.{IsTaken}
-use Rattle.mp_run.specs.Running.{StartsWith, RefusedAt, RefusedAbove, HasTooMany}
-use Rattle.mp_run.specs.declared.run.RunEnd.TheVariants as end
-use Rattle.mp_run.proofs.AboveLemmas.{not_excessive, not_finished, not_refused_at, not_many}
+use Rattle.mp_frame_run.specs.Running.{framed_course}
+use Rattle.mp_plan_run.specs.Running.{plan_course}
+use Rattle.mp_run.specs.declared.run.RunEnd.{RunEnd}
 use Rattle.mp_trial.specs.Search.{scaled, Found}
 use Rattle.mp_cli.specs.declared.outcome.FileRole.TheVariants as file
 use Rattle.mp_cli.specs.declared.outcome.TextKind.{TextKind}
 use Rattle.mp_cli.specs.declared.outcome.Outcome.{Outcome}
-use Rattle.mp_cli.specs.declared.outcome.Outcome.TheVariants.{Done, Run as Ran, Store, Network as BadNetwork, LongText, Text, Admitted, Critical, Overloaded, Certificate, ZeroVector, WeakVector, NoCertificate, Overflow, GrowthOverflow, PivotLimit, SweepLimit, Uneven, Differs, Read, Write, NoMemory}
+use Rattle.mp_cli.specs.declared.outcome.Outcome.TheVariants.{Done, Store, Network as BadNetwork, LongText, Text, Admitted, Critical, Overloaded, Certificate, ZeroVector, WeakVector, NoCertificate, Overflow, GrowthOverflow, PivotLimit, SweepLimit, Uneven, LongFrames, FastFrames, CyclicPlan, FullPlan, PlanOverflow, Differs, Read, Write, NoMemory}
 use Rattle.mp_cli.specs.Auditing.{audit_line, Compares}
 use Rattle.mp_cli.specs.Checking.{RefusesCert}
-use Rattle.mp_cli.specs.Commands.{Command, Run, RunWith, Show, Certify, Check, Refute, Audit, AuditWith, Control, Demo, Scale, Overload, Unknown}
-use Rattle.mp_cli.specs.Complete.{IsGoodFile, IsGoodText, IsGoodStream, IsExcessiveStream, IsGoodLog, IsRunnableCert, IsGoodVector, IsAdmittable, IsGrowing, CanRun, IsGood, IsExcessive}
+use Rattle.mp_cli.specs.Commands.{Command, Run, RunWith, Show, Certify, Check, Refute, Audit, AuditWith, Control, Demo, Scale, Overload, Frames, Plan, Unknown}
+use Rattle.mp_cli.specs.Complete.{IsGoodFile, IsGoodText, IsGoodStream, IsExcessiveStream, IsGoodLog, IsRunnableCert, IsGoodVector, IsAdmittable, IsGrowing, IsRunnableFramesCert, IsPlannable, CanRun, IsGood, IsExcessive}
 use Rattle.mp_cli.specs.Ends.{Means}
 use Rattle.mp_cli.specs.Opening.{Reads, RefusesNetwork, RefusesText}
 use Rattle.mp_cli.specs.Ports.{Files, Ports, IsUntouched, Writes}
 use Rattle.mp_cli.specs.Refuting.{IsZero, ShowsNothing}
-use Rattle.mp_cli.specs.Running.{Streams}
+use Rattle.mp_cli.specs.Framing.{IsUnframed, IsUnopenedFrames}
+use Rattle.mp_cli.specs.Planning.{IsUnplanned}
 use Rattle.mp_cli.specs.Scaling.{IsUnscaled}
 use Rattle.mp_cli.specs.Overloading.{IsNotOverloaded, OfOverloaded, IsUntold}
 use Rattle.mp_cli.proofs.GrowthLemmas.{told_weighed}
 use Rattle.mp_cli.specs.Sessions.{IsUnopened, IsUnaccepted}
 use Rattle.mp_cli.specs.Statuses.{status_of}
+use Rattle.mp_cli.specs.Streaming.{EndsOn, OnRun}
 use Rattle.mp_press.specs.Queues.{naturals}
 use Rattle.mp_cli.specs.Verdicts.{IsUnadmitted, IsUnfinished, OfAdmitted}
 use Rattle.mp_cli.proofs.ControlLemmas.{good_input}
+use Rattle.mp_cli.proofs.StreamLemmas.{ReadTo, run_reads, arrivals_read, on_run, good_stream, excessive_stream}
 use Rattle.mp_cli.proofs.VectorLemmas.{no_sum}
 
 -- a status, unless memory ran out
@@ -172,79 +175,66 @@ of_admitted net P can found =
     let same : found.cert ≡ can.cert = (let e = sym found.reached ∙ can.reached in cc) in
     subst P same found.is
 
-taken_at : (kinds more : List LineKind) (kind : LineKind) → AllByRecursion IsTaken (kinds ++ kind ∷ more) → IsTaken kind
-taken_at [] more kind all = all.0
-taken_at (k ∷ ks) more kind all = taken_at ks more kind all.1
+-- where there is a frame network, a certificate of it can be run by frames, or a plan is made, no refusal is left
+unframed_memory : (outcome : Outcome) (net : Network) (F : ℕ) → frame_fault net F ≡ None → IsUnframed outcome net F → status_of outcome ≡ 12
+unframed_memory LongFrames net F good refused = absurd (let no = sym good ∙ refused in cc)
+unframed_memory (FastFrames link) net F good refused = absurd (let no = sym good ∙ refused in cc)
+unframed_memory NoMemory net F good refused = refl
+unframed_memory outcome net F good refused = absurd refused
 
--- where all lines are taken, so is each
-taken_there : (net : Network) (text : List ℕ) (kinds kinds' more : List LineKind) (kind : LineKind) → StartsWith net text kinds [] → StartsWith net text kinds' (kind ∷ more) → IsTaken kind
-taken_there net text kinds kinds' more kind whole part =
-    let same : kinds ≡ kinds' ++ kind ∷ more = sym (append-nil kinds) ∙ sym whole.lines ∙ part.lines in
-    taken_at kinds' more kind (subst (λ ks. AllByRecursion IsTaken ks) same whole.taken)
+frames_memory : (outcome : Outcome) (net : Network) (F : ℕ) (cert : Cert) → IsRunnableFramesCert net F cert → IsUnopenedFrames outcome net F cert → status_of outcome ≡ 12
+frames_memory (Overflow at.Certificate) net F cert good refused = absurd (let no = sym refused ∙ good.checked in cc)
+frames_memory (Overflow at.Bound) net F cert good refused = absurd (good.found refused.num refused.den refused.slack refused.is)
+frames_memory (Overflow at.Room) net F cert good refused = absurd (good.room refused.num refused.den refused.slack refused.is)
+frames_memory NoMemory net F cert good refused = refl
+frames_memory outcome net F cert good refused = absurd refused
 
-longer : (net : Network) (text : List ℕ) (kinds kinds' more : List LineKind) (kind : LineKind) → StartsWith net text kinds [] → StartsWith net text kinds' (kind ∷ more) → length kinds' + 1 ≤ length kinds
-longer net text kinds kinds' more kind whole part =
-    let same : kinds ≡ kinds' ++ kind ∷ more = sym (append-nil kinds) ∙ sym whole.lines ∙ part.lines in
-    omega (arith, ap length same, length-append kinds' (kind ∷ more))
+plan_memory : (outcome : Outcome) (net : Network) (C : ℕ) → IsPlannable net C → IsUnplanned outcome net C → status_of outcome ≡ 12
+plan_memory (CyclicPlan link) net C good refused = absurd (good.acyclic link refused)
+plan_memory (Overflow at.Flow) net C good refused = absurd (good.flows refused)
+plan_memory (FullPlan j) net C good refused = absurd (good.fits j refused)
+plan_memory PlanOverflow net C good refused = absurd (good.found refused)
+plan_memory NoMemory net C good refused = refl
+plan_memory outcome net C good refused = absurd refused
 
-no_refusal : (net : Network) (head : List ℕ) (kind : LineKind) (n : ℕ) (left rest was now : Option (List ℕ)) → IsGoodStream net left → RefusedAt net head kind n left rest was now → IsTaken kind
-no_refusal net head kind n left rest was now good refused =
-    let told : Tells (Some good.text) rest (λ text rest. (more : List LineKind) × StartsWith net text refused.kinds (kind ∷ more)) =
-    subst (λ (l : Option (List ℕ)). Tells l rest (λ text rest. (more : List LineKind) × StartsWith net text refused.kinds (kind ∷ more))) good.told refused.read in
-    taken_there net good.text good.kinds refused.kinds told.2.0 kind good.lines told.2.1
+-- what runs by frames and by plans tell of the stream alone
+frames_read : (net : Network) (F : ℕ) (head : List ℕ) (ports : Ports) (how : RunEnd) → EndsOn (framed_course net F) head how ports → ReadTo net how ports.input_before ports.input_after
+frames_read net F head ports how ends = arrivals_read net (framed_lines_from net F (framed_opening net)) (λ A. end_line net (framed_after net F (framed_opening net) A).state) head ports how ends
 
-not_above : (net : Network) (head : List ℕ) (n p l : ℕ) (left rest was now : Option (List ℕ)) → IsGoodStream net left → RefusedAbove net head n p l left rest was now → ⊥
-not_above net head n p l left rest was now good refused = not_excessive net head n p l left rest was now refused good.text good.told good.kinds good.lines good.permitted
-
-not_too_many : (net : Network) (head : List ℕ) (left rest was now : Option (List ℕ)) → IsGoodStream net left → HasTooMany net head left rest was now → ⊥
-not_too_many net head left rest was now good many =
-    let told : Tells (Some good.text) rest (λ text rest. (kind : LineKind) × (more : List LineKind) × StartsWith net text many.kinds (kind ∷ more)) =
-    subst (λ (l : Option (List ℕ)). Tells l rest (λ text rest. (kind : LineKind) × (more : List LineKind) × StartsWith net text many.kinds (kind ∷ more))) good.told many.read in
-    let size = longer net good.text good.kinds many.kinds told.2.1 told.2.0 good.lines told.2.2 in
-    let few = good.few in
-    let number = many.number in
-    absurd (omega arith)
-
--- a good stream is run to its end
-good_stream : (outcome : Outcome) (net : Network) (ports : Ports) (num den : ℕ) (bounds : List ℕ) → IsQuiet outcome → IsGoodStream net ports.input_before → Streams outcome net ports num den bounds → EndsIn 0 outcome
-good_stream (Ran end.Done) net ports num den bounds quiet good ends = inl refl
-good_stream (Ran end.Read) net ports num den bounds quiet good ends = absurd (quiet.read refl)
-good_stream (Ran end.Write) net ports num den bounds quiet good ends = absurd (quiet.write refl)
-good_stream (Ran (end.Long n)) net ports num den bounds quiet good ends = absurd (no_refusal net _ long_line n ports.input_before ports.input_after ports.output_before ports.output_after good ends)
-good_stream (Ran (end.Grammar n)) net ports num den bounds quiet good ends = absurd (no_refusal net _ bad_line n ports.input_before ports.input_after ports.output_before ports.output_after good ends)
-good_stream (Ran (end.Above n p l)) net ports num den bounds quiet good ends = absurd (not_above net _ n p l ports.input_before ports.input_after ports.output_before ports.output_after good ends)
-good_stream (Ran end.LineLimit) net ports num den bounds quiet good ends = absurd (not_too_many net _ ports.input_before ports.input_after ports.output_before ports.output_after good ends)
-good_stream outcome net ports num den bounds quiet good ends = absurd ends
-
--- a stream above a bucket is refused as that
-excessive_stream : (outcome : Outcome) (net : Network) (ports : Ports) (num den : ℕ) (bounds : List ℕ) → IsQuiet outcome → IsExcessiveStream net ports.input_before → Streams outcome net ports num den bounds → EndsIn 8 outcome
-excessive_stream (Ran (end.Above n p l)) net ports num den bounds quiet s ends = inl refl
-excessive_stream (Ran end.Read) net ports num den bounds quiet s ends = absurd (quiet.read refl)
-excessive_stream (Ran end.Write) net ports num den bounds quiet s ends = absurd (quiet.write refl)
-excessive_stream (Ran end.Done) net ports num den bounds quiet s ends = absurd (not_finished net s.text s.line s.period s.link s.above ports.input_before ports.input_after ports.output_before ports.output_after s.told _ ends)
-excessive_stream (Ran (end.Long n)) net ports num den bounds quiet s ends =
-    absurd (not_refused_at net s.text s.line s.period s.link s.above ports.input_before ports.input_after ports.output_before ports.output_after s.told _ long_line n (λ taken. taken) ends)
-excessive_stream (Ran (end.Grammar n)) net ports num den bounds quiet s ends =
-    absurd (not_refused_at net s.text s.line s.period s.link s.above ports.input_before ports.input_after ports.output_before ports.output_after s.told _ bad_line n (λ taken. taken) ends)
-excessive_stream (Ran end.LineLimit) net ports num den bounds quiet s ends = absurd (not_many net s.text s.line s.period s.link s.above ports.input_before ports.input_after ports.output_before ports.output_after s.told _ s.few ends)
-excessive_stream outcome net ports num den bounds quiet s ends = absurd ends
+plan_reads : (net : Network) (plan : PlanOfModel) (head : List ℕ) (ports : Ports) (how : RunEnd) → EndsOn (plan_course net plan) head how ports → ReadTo net how ports.input_before ports.input_after
+plan_reads net plan head ports how ends = arrivals_read net (planned_lines_from net plan (opening net)) (λ A. end_line net (planned_after net plan (opening net) A)) head ports how ends
 
 -- a command that can run a stream comes to its run
 run_ends : (n : ℕ) (command : Command) (P : Network → Type 0) (outcome : Outcome) (ports : Ports) → IsQuiet outcome → CanRun command ports.files P → Means command outcome ports
-    → ((net : Network) (num den : ℕ) (bounds : List ℕ) → P net → Streams outcome net ports num den bounds → EndsIn n outcome) → EndsIn n outcome
+    → ((net : Network) → P net → OnRun outcome (λ how. ReadTo net how ports.input_before ports.input_after) → EndsIn n outcome) → EndsIn n outcome
 run_ends n (Run net) P outcome ports quiet good means stream =
     goes n outcome means (network_memory outcome ports.files net _ quiet good) (λ reads.
     let on = of_good file_meaning ports.files net _ _ good reads in
     goes n outcome on.1 (verdict_memory outcome good.value good.is.0.admitted) (λ admitted.
     goes n outcome (of_admitted good.value _ good.is.0.admitted admitted) (opening_memory outcome good.value good.is.0.admitted.cert good.is.0.under) (λ opens.
-    stream good.value opens.holds.num opens.holds.den opens.holds.holds.bounds good.is.1 opens.holds.holds.is.1)))
+    stream good.value good.is.1 (on_run outcome _ _ (run_reads good.value _ ports) opens.holds.holds.is.1))))
 run_ends n (RunWith net cert) P outcome ports quiet good means stream =
     goes n outcome means (network_memory outcome ports.files net _ quiet good) (λ reads.
     let on = of_good file_meaning ports.files net _ _ good reads in
     goes n outcome on.1 (text_memory outcome _ (cert_meaning good.value) ports.files cert _ quiet good.is.0) (λ read.
     goes n outcome (of_good (cert_meaning good.value) ports.files cert _ _ good.is.0.file read) (session_memory outcome good.value good.is.0.file.value good.is.0.file.is) (λ opens.
-    stream good.value opens.holds.num opens.holds.den opens.holds.holds.bounds good.is.1 opens.holds.holds.is)))
+    stream good.value good.is.1 (on_run outcome _ _ (run_reads good.value _ ports) opens.holds.holds.is))))
+run_ends n (Frames net F) P outcome ports quiet good means stream =
+    goes n outcome means (network_memory outcome ports.files net _ quiet good) (λ reads.
+    let on = of_good file_meaning ports.files net _ _ good reads in
+    goes n outcome on.1 (unframed_memory outcome good.value F good.is.0.framed) (λ framed.
+    goes n outcome framed.1 (verdict_memory outcome (frame_network good.value F) good.is.0.admitted) (λ admitted.
+    goes n outcome (of_admitted (frame_network good.value F) _ good.is.0.admitted admitted) (frames_memory outcome good.value F good.is.0.admitted.cert good.is.0.under) (λ opens.
+    stream good.value good.is.1 (on_run outcome _ _ (frames_read good.value F _ ports) opens.holds.is.1)))))
+run_ends n (Plan net C) P outcome ports quiet good means stream =
+    goes n outcome means (network_memory outcome ports.files net _ quiet good) (λ reads.
+    let on = of_good file_meaning ports.files net _ _ good reads in
+    goes n outcome on.1 (plan_memory outcome good.value C good.is.0) (λ holds.
+    stream good.value good.is.1 (on_run outcome _ _ (plan_reads good.value holds.plan _ ports) holds.is)))
 run_ends n command P outcome ports quiet good means stream = absurd good
+
+good_run : (command : Command) (outcome : Outcome) (ports : Ports) → IsQuiet outcome → CanRun command ports.files (λ n. IsGoodStream n ports.input_before) → Means command outcome ports → EndsIn 0 outcome
+good_run command outcome ports quiet good means = run_ends 0 command (λ n. IsGoodStream n ports.input_before) outcome ports quiet good means (λ n stream ends. inl (good_stream n ports.input_before ports.input_after outcome quiet.read quiet.write stream ends))
 
 -- a whole log does not differ
 compared : (outcome : Outcome) (net : Network) (ports : Ports) (P : ℕ → ℕ → Type 0) (num den : ℕ) (bounds : List ℕ) → IsQuiet outcome → IsGoodLog net P ports.input_before → P num den → AreBounds net num den bounds → Compares outcome net ports num den bounds → EndsIn 0 outcome
@@ -255,8 +245,8 @@ compared Read net ports P num den bounds quiet log is are compares = absurd (qui
 compared outcome net ports P num den bounds quiet log is are compares = written_done outcome ports (audit_line compares.periods) quiet compares.written
 
 pub completes : (command : Command) (outcome : Outcome) (ports : Ports) → IsQuiet outcome → IsGood command ports.files ports.input_before → Means command outcome ports → EndsIn 0 outcome
-completes (Run net) outcome ports quiet good means = run_ends 0 (Run net) (λ n. IsGoodStream n ports.input_before) outcome ports quiet good means (λ n num den bounds stream ends. good_stream outcome n ports num den bounds quiet stream ends)
-completes (RunWith net cert) outcome ports quiet good means = run_ends 0 (RunWith net cert) (λ n. IsGoodStream n ports.input_before) outcome ports quiet good means (λ n num den bounds stream ends. good_stream outcome n ports num den bounds quiet stream ends)
+completes (Run net) outcome ports quiet good means = good_run (Run net) outcome ports quiet good means
+completes (RunWith net cert) outcome ports quiet good means = good_run (RunWith net cert) outcome ports quiet good means
 completes (Show net) outcome ports quiet good means =
     goes 0 outcome means (network_memory outcome ports.files net _ quiet good) (λ reads.
     goes 0 outcome reads.is.1 (λ is. ap status_of is) (λ shows. written_done outcome ports shows.text quiet shows.answers.1))
@@ -307,7 +297,9 @@ completes (Overload net) outcome ports quiet good means =
     let on = of_good file_meaning ports.files net _ _ good reads in
     goes 0 outcome on.1 (overloaded_memory outcome good.value good.is) (λ found.
     goes 0 outcome (of_overloaded good.value _ good.is found) (told_memory outcome good.value good.is) (λ writes. written_done outcome ports _ quiet writes.1.answers.1)))
+completes (Frames net F) outcome ports quiet good means = good_run (Frames net F) outcome ports quiet good means
+completes (Plan net C) outcome ports quiet good means = good_run (Plan net C) outcome ports quiet good means
 completes Unknown outcome ports quiet good means = absurd good
 
 pub exceeds : (command : Command) (outcome : Outcome) (ports : Ports) → IsQuiet outcome → IsExcessive command ports.files ports.input_before → Means command outcome ports → EndsIn 8 outcome
-exceeds command outcome ports quiet given means = run_ends 8 command (λ n. IsExcessiveStream n ports.input_before) outcome ports quiet given means (λ n num den bounds stream ends. excessive_stream outcome n ports num den bounds quiet stream ends)
+exceeds command outcome ports quiet given means = run_ends 8 command (λ n. IsExcessiveStream n ports.input_before) outcome ports quiet given means (λ n stream ends. inl (excessive_stream n ports.input_before ports.input_after outcome quiet.read quiet.write stream ends))

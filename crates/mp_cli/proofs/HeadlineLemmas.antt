@@ -2,8 +2,11 @@
 use Rattle.std.proofs.Common.{◌≡◌, ◌⊎◌, ◌+◌, ℕ, List, [], ◌∷◌, refl, ap, subst, arith, Result, inl, inr, ⊎_elim}
 use Rattle.mp_model.specs.Arrivals.{arrivals_of}
 use Rattle.mp_model.specs.Certificate.{Cert}
+use Rattle.mp_model.specs.Frames.{frame_network, framed_after, framed_lines_from, framed_log, framed_opening}
+use Rattle.mp_model.specs.Log.{text_of, header_lines, end_line}
 use Rattle.mp_model.specs.Network.{Network}
 use Rattle.mp_model.specs.NetworkRules.{IsNetwork, IsAcceptable}
+use Rattle.mp_model.specs.Plans.{plan_header, planned_after, planned_lines_from, planned_log}
 use Rattle.mp_model.specs.Run.{advance, greatest_stages, run_from, opening}
 use Rattle.mp_model.specs.Step.{State, queue, queued}
 use Rattle.mp_laws.proofs.Bounds.{all_greatest}
@@ -16,16 +19,19 @@ use Rattle.mp_netfile.specs.Meaning.{file_meaning}
 use Rattle.mp_run.specs.declared.run.RunEnd.TheVariants as how
 use Rattle.mp_cli.specs.declared.outcome.Outcome.{Outcome}
 use Rattle.mp_cli.specs.declared.outcome.Outcome.TheVariants.{Done, Run as Ran}
-use Rattle.mp_cli.specs.Commands.{Command, Run, RunWith, Show, Certify, Check, Refute, Audit, AuditWith, Control, Demo, Scale, Overload, Unknown}
+use Rattle.mp_cli.specs.Commands.{Command, Run, RunWith, Show, Certify, Check, Refute, Audit, AuditWith, Control, Demo, Scale, Overload, Frames, Plan, Unknown}
 use Rattle.mp_cli.specs.Auditing.{Compares}
 use Rattle.mp_cli.specs.Demonstrating.{IsShownRun}
 use Rattle.mp_cli.specs.Ends.{Means}
+use Rattle.mp_cli.specs.Framing.{FramesHoldGreatest, OpensFrames, StreamsFrames, WritesFramedLog}
+use Rattle.mp_cli.specs.Planning.{PlanHolds, StreamsPlan, WritesPlannedLog}
 use Rattle.mp_cli.specs.Headline.{Does, IsPeriod, EachPeriod, KeepsPromise, OfNetwork, WritesLog}
 use Rattle.mp_cli.specs.Opening.{Reads, RefusesNetwork, OnNetwork}
 use Rattle.mp_cli.specs.Ports.{Ports, Files, IsUntouched}
 use Rattle.mp_cli.specs.Sessions.{HoldsWith, HoldsWithGreatest, Opens, OnSession, OnAnySession, AtGreatest, IsUnopened, IsUnaccepted}
 use Rattle.mp_cli.specs.Statuses.{status_of}
 use Rattle.mp_cli.specs.Verdicts.{OfAdmitted}
+use Rattle.mp_cli.proofs.StreamLemmas.{puts_log}
 
 -- a command that was not refused went on
 went : {R G : Type 0} {ports : Ports} → ((R × IsUntouched ports) ⊎ G) → (R → ⊥) → G
@@ -61,6 +67,32 @@ with_cert outcome net ports P Q cert never f session =
       holds = record { bounds = under.bounds; are = under.are; room = under.room; within = under.within; is = f opens.holds.num opens.holds.den under.bounds under.is };
     }
 
+-- behind the end of a run by frames stands the framed log, and behind that of a run by a plan the planned one
+frames_done : (net : Network) (F : ℕ) (cert : Cert) (ports : Ports) → OpensFrames net F (AtGreatest (frame_network net F) (StreamsFrames (Ran how.Done) net F ports)) cert → FramesHoldGreatest net F (WritesFramedLog net F ports)
+frames_done net F cert ports opens = record {
+  num = opens.num;
+  den = opens.den;
+  greatest = opens.holds.is.0;
+  holds = record {
+    bounds = opens.holds.bounds;
+    are = opens.holds.are;
+    room = opens.holds.room;
+    within = opens.holds.within;
+    is = puts_log net (framed_lines_from net F (framed_opening net)) (λ A. end_line net (framed_after net F (framed_opening net) A).state) (text_of (header_lines net opens.num opens.den opens.holds.bounds)) ports
+        (header_lines net opens.num opens.den opens.holds.bounds) (framed_log net F opens.num opens.den opens.holds.bounds) refl (λ A. refl) opens.holds.is.1;
+  };
+}
+
+plan_done : (net : Network) (C : ℕ) (ports : Ports) → PlanHolds net C (StreamsPlan (Ran how.Done) net ports) → PlanHolds net C (WritesPlannedLog net ports)
+plan_done net C ports holds = record {
+  plan = holds.plan;
+  stated = holds.stated;
+  on = holds.on;
+  within = holds.within;
+  is = puts_log net (planned_lines_from net holds.plan (opening net)) (λ A. end_line net (planned_after net holds.plan (opening net) A)) (text_of (plan_header net holds.plan)) ports
+      (plan_header net holds.plan) (planned_log net holds.plan) refl (λ A. refl) holds.is;
+}
+
 does_done : (command : Command) (ports : Ports) → Means command Done ports → Does command ports
 does_done (Run net) ports means = of_reads file_meaning ports.files net _ (λ n. HoldsWithGreatest n (WritesLog n ports)) (went means (λ no. no)) (λ n on. greatest_of Done n ports (λ num den bounds. ⊥) (WritesLog n ports) (λ cert no. no) (λ num den bounds no. absurd no) (went on.1 (λ no. no)))
 does_done (RunWith net cert) ports means =
@@ -82,6 +114,8 @@ does_done (Control net) ports means = absurd (went means (λ no. no)).is.1
 does_done (Demo n) ports means = greatest_of Done (demo_network n) ports _ _ (λ cert no. no) (λ num den bounds is. is) (went means (λ no. no))
 does_done (Scale net d) ports means = of_reads file_meaning ports.files net _ _ (went means (λ no. no)) (λ n on. let found = went on.1 (λ no. no) in (found.cert, found.is))
 does_done (Overload net) ports means = of_reads file_meaning ports.files net _ _ (went means (λ no. no)) (λ n on. let found = went on.1 (λ no. no) in (found.vector, (went found.is (λ no. no)).1))
+does_done (Frames net F) ports means = absurd (went (went ((went ((went means (λ no. no)).is.1) (λ no. no)).1) (λ no. no)).is (λ no. no)).holds.is.1
+does_done (Plan net C) ports means = absurd (went ((went means (λ no. no)).is.1) (λ no. no)).is
 does_done Unknown ports means = absurd (let no = means.0 in cc)
 
 does_run : (command : Command) (ports : Ports) → Means command (Ran how.Done) ports → Does command ports
@@ -108,6 +142,12 @@ does_run (Demo n) ports means =
     absurd none.holds.is
 does_run (Scale net d) ports means = absurd (went ((went means (λ no. no)).is.1) (λ no. no)).is.answers.1
 does_run (Overload net) ports means = absurd (went (went ((went means (λ no. no)).is.1) (λ no. no)).is (λ no. no)).1.answers.1
+does_run (Frames net F) ports means =
+    of_reads file_meaning ports.files net _ (λ n. FramesHoldGreatest n F (WritesFramedLog n F ports)) (went means (λ no. no)) (λ n on.
+    let framed = went on.1 (λ no. no) in
+    let admitted = went framed.1 (λ no. no) in
+    frames_done n F admitted.cert ports (went admitted.is (λ no. no)))
+does_run (Plan net C) ports means = of_reads file_meaning ports.files net _ (λ n. PlanHolds n C (WritesPlannedLog n ports)) (went means (λ no. no)) (λ n on. plan_done n C ports (went on.1 (λ no. no)))
 does_run Unknown ports means = absurd (let no = means.0 in cc)
 
 zero_outcome : (outcome : Outcome) → status_of outcome ≡ 0 → (outcome ≡ Done) ⊎ (outcome ≡ Ran how.Done)
@@ -163,4 +203,6 @@ promised (Control net) outcome ports done means = promise_on outcome net ports _
 promised (Demo n) outcome ports done means = promise_of (demo_network n) (demo_acceptable n).network
 promised (Scale net d) outcome ports done means = promise_on outcome net ports _ (not_refused outcome ports.files net done) means
 promised (Overload net) outcome ports done means = promise_on outcome net ports _ (not_refused outcome ports.files net done) means
+promised (Frames net F) outcome ports done means = promise_on outcome net ports _ (not_refused outcome ports.files net done) means
+promised (Plan net C) outcome ports done means = promise_on outcome net ports _ (not_refused outcome ports.files net done) means
 promised Unknown outcome ports done means = absurd (let wrong = means.0 in omega (arith, ap status_of wrong))

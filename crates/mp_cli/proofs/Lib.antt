@@ -3,6 +3,9 @@ pub mod OpeningLemmas
 pub mod SessionLemmas
 pub mod VectorLemmas
 pub mod GrowthLemmas
-pub mod HeadlineLemmas
 pub mod ControlLemmas
+pub mod StreamLemmas
+pub mod FrameLemmas
+pub mod PlanLemmas
+pub mod HeadlineLemmas
 pub mod CompleteLemmas

@@ -73,10 +73,15 @@ module _ (net : Network) (cert : Cert) (by : OfAdmitted net (λ c. c ≡ cert)) 
   pub has_greatest : HasGreatestSlack net cert
   has_greatest = record { certifies = admitted.certifies; num = unsigned_abs by.slack.num; den = unsigned_abs by.slack.den; slack = admitted.reaches; greatest = admitted.greatest }
 
+  -- its slack is the greatest
+  pub greatest_at : (num den : ℕ) → IsSlack cert num den → IsGreatestSlack net num den
+  greatest_at num den slack =
+      let same = slack_same net cert admitted.certifies (unsigned_abs by.slack.num) (unsigned_abs by.slack.den) num den admitted.reaches slack in
+      subst (λ (E : ℕ). IsGreatestSlack net E den) same.0 (subst (λ (D : ℕ). IsGreatestSlack net (unsigned_abs by.slack.num) D) same.1 admitted.greatest)
+
   abbrev with_greatest : (P : ℕ → ℕ → List ℕ → Type 0) → HoldsWith net P cert → HoldsWith net (AtGreatest net P) cert
   with_greatest P holds =
-      let same = slack_same net cert admitted.certifies (unsigned_abs by.slack.num) (unsigned_abs by.slack.den) holds.num holds.den admitted.reaches holds.slack in
-      let greatest = subst (λ (E : ℕ). IsGreatestSlack net E holds.den) same.0 (subst (λ (D : ℕ). IsGreatestSlack net (unsigned_abs by.slack.num) D) same.1 admitted.greatest) in
+      let greatest = greatest_at holds.num holds.den holds.slack in
       record { certifies = holds.certifies; num = holds.num; den = holds.den; slack = holds.slack; holds = record { bounds = holds.holds.bounds; are = holds.holds.are; room = holds.holds.room; within = holds.holds.within; is = (greatest, holds.holds.is) } }
 
   -- under the certificate of the greatest slack no rule is broken

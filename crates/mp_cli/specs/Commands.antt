@@ -1,5 +1,5 @@
 -- What the words of the command line ask for.
-use Rattle.std.specs.Prelude.{◌≤◌, ◌<◌, ◌^◌, ℕ, zero, suc, Bool, if◌then◌else◌, List, [], ◌∷◌, codes, nat_eq, Option, Some, None}
+use Rattle.std.specs.Prelude.{◌≤◌, ◌<◌, ◌^◌, ℕ, zero, suc, Bool, not, ◌&&◌, nat_lt, if◌then◌else◌, List, [], ◌∷◌, codes, nat_eq, Option, Some, None}
 use Rattle.std.specs.Cmp.Lexicographic.{pointwise}
 use Rattle.mp_model.specs.Stream.{count_of}
 use Rattle.mp_cli.specs.declared.command.Command.{Command as SaidCommand}
@@ -21,6 +21,8 @@ pub data Command : Type 0 where
   Demo : ℕ → Command
   Scale : List ℕ → ℕ → Command
   Overload : List ℕ → Command
+  Frames : List ℕ → ℕ → Command
+  Plan : List ℕ → ℕ → Command
   Unknown : Command
 
 -- This is the command of the code, with the names in place of what points to them.
@@ -37,6 +39,8 @@ asked (said.Control net) = Control net.now
 asked (said.Demo n) = Demo n
 asked (said.Scale net d) = Scale net.now d
 asked (said.Overload net) = Overload net.now
+asked (said.Frames net f) = Frames net.now f
+asked (said.Plan net c) = Plan net.now c
 asked said.Unknown = Unknown
 
 -- The word is the one that is listed.
@@ -62,6 +66,28 @@ scale_with net None = Unknown
 abbrev pub scale_of : List ℕ → List ℕ → Command
 scale_of net denominator = scale_with net (count_of denominator)
 
+-- A number is in a range where it is neither below the least nor above the most.
+abbrev pub is_in : ℕ → ℕ → ℕ → Bool
+is_in least most n = not (nat_lt n least) && not (nat_lt most n)
+
+-- A run by frames is asked for by a count from 2 to 60.
+abbrev pub frames_with : List ℕ → Option ℕ → Command
+frames_with net (Some n) = if is_in 2 60 n then Frames net n else Unknown
+frames_with net None = Unknown
+
+-- This is the run of a network by frames of a length.
+abbrev pub frames_of : List ℕ → List ℕ → Command
+frames_of net length = frames_with net (count_of length)
+
+-- A run by a cyclic plan is asked for by a count from 1 to 3,600.
+abbrev pub plan_with : List ℕ → Option ℕ → Command
+plan_with net (Some n) = if is_in 1 3600 n then Plan net n else Unknown
+plan_with net None = Unknown
+
+-- This is the run of a network by a plan of a cycle.
+abbrev pub plan_of : List ℕ → List ℕ → Command
+plan_of net cycle = plan_with net (count_of cycle)
+
 -- A word asks for a command with the name of a network, or with a number.
 unfoldable pub command_on_one : List ℕ → List ℕ → Command
 command_on_one word net =
@@ -82,6 +108,8 @@ command_on_two word net other =
     else if is_word word (codes "check") then Check net other
     else if is_word word (codes "refute") then Refute net other
     else if is_word word (codes "scale") then scale_of net other
+    else if is_word word (codes "frames") then frames_of net other
+    else if is_word word (codes "plan") then plan_of net other
     else Unknown
 
 -- The listed words are a word with a name or a number, or a word with the name of a network and another name or a number.
@@ -90,10 +118,12 @@ command_of (word ∷ net ∷ []) = command_on_one word net
 command_of (word ∷ net ∷ other ∷ []) = command_on_two word net other
 command_of words = Unknown
 
--- The denominator of a scaling is at least 1 and has at most 9 digits.
-abbrev pub HasDenominator : Command → Type 0
-HasDenominator (Scale net d) = (1 ≤ d) × (d < 10 ^ 9)
-HasDenominator command = Unit {0}
+-- The numbers of a command are in their ranges: a denominator is at least 1 and has at most 9 digits, a frame has 2 to 60 periods, and a cycle 1 to 3,600.
+abbrev pub HasRanges : Command → Type 0
+HasRanges (Scale net d) = (1 ≤ d) × (d < 10 ^ 9)
+HasRanges (Frames net f) = (2 ≤ f) × (f ≤ 60)
+HasRanges (Plan net c) = (1 ≤ c) × (c ≤ 3600)
+HasRanges command = Unit {0}
 
 -- This is the name of a file of the command, and nothing where it has none.
 abbrev pub file_of : Command → FileRole → List ℕ
@@ -112,4 +142,6 @@ file_of (AuditWith net cert) Other = cert
 file_of (Control net) Net = net
 file_of (Scale net d) Net = net
 file_of (Overload net) Net = net
+file_of (Frames net f) Net = net
+file_of (Plan net c) Net = net
 file_of command role = []

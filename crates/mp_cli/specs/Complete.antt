@@ -5,6 +5,7 @@ use Rattle.mp_model.specs.Arrivals.{IsPermitted}
 use Rattle.mp_model.specs.Bounds.{AreBounds}
 use Rattle.mp_model.specs.Certificate.{Cert}
 use Rattle.mp_model.specs.ControlLog.{InputLine}
+use Rattle.mp_model.specs.Frames.{frame_network}
 use Rattle.mp_model.specs.Load.{ShowsOverload, IsTight}
 use Rattle.mp_model.specs.Network.{Network}
 use Rattle.mp_model.specs.Slack.{IsSlack, IsGreatestSlack}
@@ -15,16 +16,20 @@ use Rattle.mp_cert.specs.Checking.{check_outcome}
 use Rattle.mp_cert.specs.TextMeaning.{cert_meaning, vector_meaning}
 use Rattle.mp_cert.specs.Weighing.{weighed}
 use Rattle.mp_control.specs.Controlling as control
+use Rattle.mp_frame.specs.FrameBounds.{HasNoFrameRoom, PassesFrameBound}
+use Rattle.mp_frame.specs.FrameNet.{frame_fault}
 use Rattle.mp_gen.specs.DemoNetwork.{demo_network}
 use Rattle.mp_netfile.specs.Meaning.{file_meaning}
 use Rattle.mp_num.specs.Fraction.{Fraction}
+use Rattle.mp_plan.specs.Made.{IsRefused}
+use Rattle.mp_plan.specs.declared.fault.PlanFault.TheVariants as planning
 use Rattle.mp_run.specs.Running.{StartsWith, IsAboveAt}
 use Rattle.mp_trial.specs.Search.{scaled, Found}
 use Rattle.mp_verdict.specs.Stated.{Reached}
 use Rattle.mp_verdict.specs.Verdict.{verdict, Admitted}
 use Rattle.mp_verdict.specs.Verdict as judged
 use Rattle.mp_overload.specs.Evens.{uneven_link}
-use Rattle.mp_cli.specs.Commands.{Command, Run, RunWith, Show, Certify, Check, Refute, Audit, AuditWith, Control, Demo, Scale, Overload, Unknown}
+use Rattle.mp_cli.specs.Commands.{Command, Run, RunWith, Show, Certify, Check, Refute, Audit, AuditWith, Control, Demo, Scale, Overload, Frames, Plan, Unknown}
 use Rattle.mp_cli.specs.Overloading.{IsTold}
 use Rattle.mp_cli.specs.Ports.{Files}
 use Rattle.mp_cli.specs.Refuting.{IsFormed}
@@ -108,10 +113,31 @@ pub record IsRunnable (net : Network) : Type 0 where
   pub admitted : IsAdmittable net
   pub under : IsRunnableCert net admitted.cert
 
+-- No calculation of the check of a certificate of the frame network or of the bounds of frames exceeds 128 bits, the certificate keeps all rules, and there is room for the bounds.
+pub record IsRunnableFramesCert (net : Network) (F : ℕ) (cert : Cert) : Type 0 where
+  pub checked : check_outcome (frame_network net F) cert ≡ Ok tt
+  pub found : (num den : ℕ) → IsSlack cert num den → ¬ PassesFrameBound net F num den
+  pub room : (num den : ℕ) → IsSlack cert num den → ¬ HasNoFrameRoom net F num den
+
+-- There is a frame network, it is admitted, and a stream can be run by frames under its certificate.
+pub record IsRunnableByFrames (net : Network) (F : ℕ) : Type 0 where
+  pub framed : frame_fault net F ≡ None
+  pub admitted : IsAdmittable (frame_network net F)
+  pub under : IsRunnableFramesCert net F admitted.cert
+
+-- A plan of this cycle can be made: no link is on a cycle of movements, all greens fit into the cycle, and no calculation exceeds its limit.
+pub record IsPlannable (net : Network) (C : ℕ) : Type 0 where
+  pub acyclic : (link : ℕ) → ¬ IsRefused net C (planning.Cycle link)
+  pub flows : ¬ IsRefused net C planning.Flow
+  pub fits : (junction : ℕ) → ¬ IsRefused net C (planning.Full junction)
+  pub found : ¬ IsRefused net C planning.Overflow
+
 -- The files of a command are good, a stream can be run, and the fact is true of the network.
 abbrev pub CanRun : Command → Files → (Network → Type 0) → Type 0
 CanRun (Run net) files P = IsGoodFile file_meaning files net (λ n. IsRunnable n × P n)
 CanRun (RunWith net cert) files P = IsGoodFile file_meaning files net (λ n. IsGoodText (cert_meaning n) files cert (IsRunnableCert n) × P n)
+CanRun (Frames net F) files P = IsGoodFile file_meaning files net (λ n. IsRunnableByFrames n F × P n)
+CanRun (Plan net C) files P = IsGoodFile file_meaning files net (λ n. IsPlannable n C × P n)
 CanRun command files P = ⊥
 
 -- The files of a command are good, and so is what is to come from the input.
@@ -128,6 +154,8 @@ IsGood (Control net) files left = IsGoodFile file_meaning files net (λ n. IsGoo
 IsGood (Demo n) files left = IsRunnable (demo_network n)
 IsGood (Scale net d) files left = IsGoodFile file_meaning files net (λ n. (cert : Cert) × (scaled n d ≡ Found cert))
 IsGood (Overload net) files left = IsGoodFile file_meaning files net IsGrowing
+IsGood (Frames net F) files left = CanRun (Frames net F) files (λ n. IsGoodStream n left)
+IsGood (Plan net C) files left = CanRun (Plan net C) files (λ n. IsGoodStream n left)
 IsGood Unknown files left = ⊥
 
 -- The files of a command are good, and the stream is above a bucket.

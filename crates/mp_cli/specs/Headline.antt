@@ -14,7 +14,7 @@ use Rattle.mp_netfile.specs.Meaning.{file_meaning}
 use Rattle.mp_control.specs.Controlling as control
 use Rattle.mp_run.specs.Running.{Finished}
 use Rattle.mp_cli.specs.declared.outcome.Outcome.TheVariants.{Done}
-use Rattle.mp_cli.specs.Commands.{Command, Run, RunWith, Show, Certify, Check, Refute, Audit, AuditWith, Control, Demo, Scale, Overload, Unknown}
+use Rattle.mp_cli.specs.Commands.{Command, Run, RunWith, Show, Certify, Check, Refute, Audit, AuditWith, Control, Demo, Scale, Overload, Frames, Plan, Unknown}
 use Rattle.mp_cli.specs.Opening.{Reads}
 use Rattle.mp_cli.specs.Ports.{Ports}
 use Rattle.mp_cli.specs.Sessions.{HoldsWith, HoldsWithGreatest}
@@ -27,6 +27,8 @@ use Rattle.mp_cli.specs.Auditing.{IsShownWhole}
 use Rattle.mp_cli.specs.Demonstrating.{IsShownRun}
 use Rattle.mp_cli.specs.Scaling.{WritesScaled}
 use Rattle.mp_cli.specs.Overloading.{WritesGrowth}
+use Rattle.mp_cli.specs.Framing.{FramesHoldGreatest, WritesFramedLog}
+use Rattle.mp_cli.specs.Planning.{PlanHolds, WritesPlannedLog}
 
 -- The stream was read to its end, and the log of its run was put behind the header of the slack num/den and the bounds.
 abbrev pub WritesLog : Network → Ports → ℕ → ℕ → List ℕ → Type 0
@@ -50,6 +52,8 @@ Does (Control net) ports = Reads file_meaning ports.files net (λ n. WritesAnswe
 Does (Demo n) ports = HoldsWithGreatest (demo_network n) (IsShownRun Done (demo_network n) n ports)
 Does (Scale net d) ports = Reads file_meaning ports.files net (λ n. (cert : Cert) × WritesScaled Done n d ports cert)
 Does (Overload net) ports = Reads file_meaning ports.files net (λ n. (vector : List ℤ) × WritesGrowth Done n ports vector)
+Does (Frames net f) ports = Reads file_meaning ports.files net (λ n. FramesHoldGreatest n f (WritesFramedLog n f ports))
+Does (Plan net c) ports = Reads file_meaning ports.files net (λ n. PlanHolds n c (WritesPlannedLog n ports))
 Does Unknown ports = ⊥
 
 -- A period leads from one state to the next: each junction shows the stage of greatest pressure at the queues before the period, the lowest number on ties; so its line says; and after it what entered is what departed and what is queued.
@@ -85,4 +89,6 @@ OfNetwork (Control net) ports P = Reads file_meaning ports.files net P
 OfNetwork (Demo n) ports P = P (demo_network n)
 OfNetwork (Scale net d) ports P = Reads file_meaning ports.files net P
 OfNetwork (Overload net) ports P = Reads file_meaning ports.files net P
+OfNetwork (Frames net f) ports P = Reads file_meaning ports.files net P
+OfNetwork (Plan net c) ports P = Reads file_meaning ports.files net P
 OfNetwork Unknown ports P = ⊥

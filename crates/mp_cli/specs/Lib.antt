@@ -6,6 +6,7 @@ pub mod Messages
 pub mod Opening
 pub mod Verdicts
 pub mod Sessions
+pub mod Streaming
 pub mod Running
 pub mod RunningWith
 pub mod Showing
@@ -18,6 +19,8 @@ pub mod Controlling
 pub mod Demonstrating
 pub mod Scaling
 pub mod Overloading
+pub mod Framing
+pub mod Planning
 pub mod Ends
 pub mod Headline
 pub mod Complete

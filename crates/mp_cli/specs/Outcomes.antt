@@ -14,10 +14,16 @@ use Rattle.mp_growth.specs.declared.fault.GrowthFault.{GrowthFault}
 use Rattle.mp_growth.specs.declared.fault.GrowthFault.TheVariants as growing
 use Rattle.mp_growth.specs.declared.fault.TrailFault.{TrailFault}
 use Rattle.mp_growth.specs.declared.fault.TrailFault.TheVariants as trailing
+use Rattle.mp_frame.specs.declared.fault.FrameFault.{FrameFault}
+use Rattle.mp_frame.specs.declared.fault.FrameFault.TheVariants as framing
+use Rattle.mp_frame_run.specs.declared.session.FrameOpen.{FrameOpen}
+use Rattle.mp_frame_run.specs.declared.session.FrameOpen.TheVariants as frames
+use Rattle.mp_plan.specs.declared.fault.PlanFault.{PlanFault}
+use Rattle.mp_plan.specs.declared.fault.PlanFault.TheVariants as planning
 use Rattle.mp_cli.specs.declared.outcome.CertRule.{CertRule}
 use Rattle.mp_cli.specs.declared.outcome.CertRule.TheVariants as rule
 use Rattle.mp_cli.specs.declared.outcome.Outcome.{Outcome}
-use Rattle.mp_cli.specs.declared.outcome.Outcome.TheVariants.{Certificate, Overflow, GrowthOverflow, PivotLimit, SweepLimit, Uneven, NoMemory}
+use Rattle.mp_cli.specs.declared.outcome.Outcome.TheVariants.{Certificate, Overflow, GrowthOverflow, PivotLimit, SweepLimit, Uneven, LongFrames, FastFrames, CyclicPlan, FullPlan, PlanOverflow, NoMemory}
 
 -- This is the rule that a fault names; an overflow names none.
 abbrev pub broken_rule : CertFault → Option CertRule
@@ -68,6 +74,27 @@ outcome_of_trail trailing.NoMemory = NoMemory
 abbrev pub outcome_of_growth : GrowthFault → Outcome
 outcome_of_growth growing.Vector = Overflow at.Vector
 outcome_of_growth growing.Growth = GrowthOverflow
+
+-- This is the outcome of a frame network that there is not.
+abbrev pub outcome_of_framing : FrameFault → Outcome
+outcome_of_framing framing.Per = LongFrames
+outcome_of_framing (framing.Rate link) = FastFrames link
+outcome_of_framing framing.NoMemory = NoMemory
+
+-- This is the outcome of a session of frames that was not opened.
+abbrev pub outcome_of_frames : FrameOpen → Outcome
+outcome_of_frames (frames.Cert broken) = outcome_of_fault broken
+outcome_of_frames frames.Bound = Overflow at.Bound
+outcome_of_frames frames.Room = Overflow at.Room
+outcome_of_frames frames.NoMemory = NoMemory
+
+-- This is the outcome of a plan that was not made.
+abbrev pub outcome_of_plan : PlanFault → Outcome
+outcome_of_plan (planning.Cycle link) = CyclicPlan link
+outcome_of_plan planning.Flow = Overflow at.Flow
+outcome_of_plan (planning.Full j) = FullPlan j
+outcome_of_plan planning.Overflow = PlanOverflow
+outcome_of_plan planning.NoMemory = NoMemory
 
 -- This is the word for a vector whose load is at least what is served.
 abbrev pub word_of : Weighed → List ℕ

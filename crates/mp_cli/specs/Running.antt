@@ -5,16 +5,15 @@ use Rattle.mp_model.specs.Log.{text_of, header_lines}
 use Rattle.mp_model.specs.Network.{Network}
 use Rattle.mp_run.specs.Running.{EndsAs}
 use Rattle.mp_cli.specs.declared.outcome.Outcome.{Outcome}
-use Rattle.mp_cli.specs.declared.outcome.Outcome.TheVariants as end
 use Rattle.mp_cli.specs.Opening.{OnNetwork}
 use Rattle.mp_cli.specs.Ports.{Ports}
 use Rattle.mp_cli.specs.Sessions.{OnSession, OnAnySession, AtGreatest}
+use Rattle.mp_cli.specs.Streaming.{OnRun}
 use Rattle.mp_cli.specs.Verdicts.{OnAdmitted}
 
 -- The stream was run to this end behind the header of the slack num/den and the bounds.
 abbrev pub Streams : Outcome → Network → Ports → ℕ → ℕ → List ℕ → Type 0
-Streams (end.Run how) net ports num den bounds = EndsAs net (text_of (header_lines net num den bounds)) how ports.input_before ports.input_after ports.output_before ports.output_after
-Streams outcome net ports num den bounds = ⊥
+Streams outcome net ports num den bounds = OnRun outcome (λ how. EndsAs net (text_of (header_lines net num den bounds)) how ports.input_before ports.input_after ports.output_before ports.output_after)
 
 -- This is what each outcome says of the run of a stream under a certificate.
 abbrev pub StreamsUnder : Outcome → Network → Cert → Ports → Type 0

@@ -3,7 +3,7 @@ use Rattle.std.specs.Prelude.{◌≡◌, ℕ}
 use Rattle.mp_run.specs.declared.run.RunEnd.{RunEnd}
 use Rattle.mp_run.specs.declared.run.RunEnd.TheVariants as end
 use Rattle.mp_cli.specs.declared.outcome.Outcome.{Outcome}
-use Rattle.mp_cli.specs.declared.outcome.Outcome.TheVariants.{Done, Run, Words, Store, Network, LongText, Text, Admitted, Critical, Overloaded, Certificate, ZeroVector, WeakVector, NoCertificate, Overflow, GrowthOverflow, PivotLimit, SweepLimit, Uneven, Differs, Read, Write, NoMemory}
+use Rattle.mp_cli.specs.declared.outcome.Outcome.TheVariants.{Done, Run, Words, Store, Network, LongText, Text, Admitted, Critical, Overloaded, Certificate, ZeroVector, WeakVector, NoCertificate, Overflow, GrowthOverflow, PivotLimit, SweepLimit, Uneven, LongFrames, FastFrames, CyclicPlan, FullPlan, PlanOverflow, Differs, Read, Write, NoMemory}
 
 -- This is the status of a run's end.
 abbrev pub run_status : RunEnd → ℕ
@@ -33,6 +33,7 @@ status_of WeakVector = 4
 status_of NoCertificate = 4
 status_of (Overflow place) = 5
 status_of GrowthOverflow = 5
+status_of PlanOverflow = 5
 status_of (PivotLimit j) = 6
 status_of Read = 10
 status_of Write = 11
@@ -40,6 +41,10 @@ status_of NoMemory = 12
 status_of (Differs n) = 13
 status_of (SweepLimit e) = 15
 status_of (Uneven link) = 16
+status_of (CyclicPlan link) = 17
+status_of (FullPlan j) = 17
+status_of LongFrames = 18
+status_of (FastFrames link) = 18
 
 -- An outcome is no fault of the input or the output.
 pub record HasNoPortFault (outcome : Outcome) : Type 0 where

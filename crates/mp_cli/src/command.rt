@@ -1,6 +1,6 @@
 //! The words of the command line.
 ghost use Rattle.std.specs.Prelude.{◌≡◌, map, string_bytes};
-ghost use Rattle.mp_cli.specs.Commands.{asked, command_of, command_on_one, command_on_two, demo_of, scale_of, file_of, is_word, HasDenominator};
+ghost use Rattle.mp_cli.specs.Commands.{asked, command_of, command_on_one, command_on_two, demo_of, scale_of, frames_of, plan_of, file_of, is_word, is_in, HasRanges};
 
 use crate::outcome::FileRole;
 use mp_text::read_count;
@@ -32,6 +32,11 @@ pub enum Command<'a> {
     Scale { net: &'a str, d: u32 },
     /// `overload NET`: how fast an overloaded network grows, whatever its junctions show.
     Overload { net: &'a str },
+    /// `frames NET F`: the log of the stream's run by frames of F periods, from 2 to 60, each change of stage of which
+    /// loses one.
+    Frames { net: &'a str, f: u32 },
+    /// `plan NET C`: the log of the stream's run by a cyclic plan of C periods, from 1 to 3,600.
+    Plan { net: &'a str, c: u32 },
     /// Words that are not listed.
     Unknown,
 }
@@ -46,7 +51,7 @@ fn is_word(word: &str, listed: &str) -> bool
 // The demonstration of this number.
 fn demo_of(number: &str) -> Command<'_>
     ensures value { asked result ≡ demo_of number.now }
-    ensures denominator { HasDenominator (asked result) }
+    ensures ranges { HasRanges (asked result) }
 {
     match read_count(number.as_bytes()) {
         Some(n) => Command::Demo(n),
@@ -57,7 +62,7 @@ fn demo_of(number: &str) -> Command<'_>
 // The scaling to this denominator, which is at least 1.
 fn scale_of<'a>(net: &'a str, denominator: &str) -> Command<'a>
     ensures value { asked result ≡ scale_of net.now denominator.now }
-    ensures denominator { HasDenominator (asked result) }
+    ensures ranges { HasRanges (asked result) }
 {
     match read_count(denominator.as_bytes()) {
         None | Some(0) => Command::Unknown,
@@ -65,11 +70,40 @@ fn scale_of<'a>(net: &'a str, denominator: &str) -> Command<'a>
     }
 }
 
+// The number is in the range.
+fn is_in(least: u64, most: u64, n: u64) -> bool
+    ensures { result ≡ is_in least most n }
+{
+    least <= n && n <= most
+}
+
+// The run by frames of this length, which is from 2 to 60.
+fn frames_of<'a>(net: &'a str, length: &str) -> Command<'a>
+    ensures value { asked result ≡ frames_of net.now length.now }
+    ensures ranges { HasRanges (asked result) }
+{
+    match read_count(length.as_bytes()) {
+        Some(f) if is_in(2, 60, f) => Command::Frames { net, f: f as u32 },
+        _ => Command::Unknown,
+    }
+}
+
+// The run by a plan of this cycle, which is from 1 to 3,600.
+fn plan_of<'a>(net: &'a str, cycle: &str) -> Command<'a>
+    ensures value { asked result ≡ plan_of net.now cycle.now }
+    ensures ranges { HasRanges (asked result) }
+{
+    match read_count(cycle.as_bytes()) {
+        Some(c) if is_in(1, 3600, c) => Command::Plan { net, c: c as u32 },
+        _ => Command::Unknown,
+    }
+}
+
 // The command that a word asks for with the name of a network, or with a number.
 #[tactic(auto, unfolding(crate::specs::Commands::command_on_one))]
 fn command_on_one<'a>(word: &str, net: &'a str) -> Command<'a>
     ensures value { asked result ≡ command_on_one word.now net.now }
-    ensures denominator { HasDenominator (asked result) }
+    ensures ranges { HasRanges (asked result) }
 {
     if is_word(word, "run") {
         Command::Run { net }
@@ -94,7 +128,7 @@ fn command_on_one<'a>(word: &str, net: &'a str) -> Command<'a>
 #[tactic(auto, unfolding(crate::specs::Commands::command_on_two))]
 fn command_on_two<'a>(word: &str, net: &'a str, other: &'a str) -> Command<'a>
     ensures value { asked result ≡ command_on_two word.now net.now other.now }
-    ensures denominator { HasDenominator (asked result) }
+    ensures ranges { HasRanges (asked result) }
 {
     if is_word(word, "runwith") {
         Command::RunWith { net, cert: other }
@@ -106,6 +140,10 @@ fn command_on_two<'a>(word: &str, net: &'a str, other: &'a str) -> Command<'a>
         Command::Refute { net, vector: other }
     } else if is_word(word, "scale") {
         scale_of(net, other)
+    } else if is_word(word, "frames") {
+        frames_of(net, other)
+    } else if is_word(word, "plan") {
+        plan_of(net, other)
     } else {
         Command::Unknown
     }
@@ -114,7 +152,7 @@ fn command_on_two<'a>(word: &str, net: &'a str, other: &'a str) -> Command<'a>
 /// The command of the words.
 pub fn command_of(words: &[String]) -> Command<'_>
     ensures value { asked result ≡ command_of (map string_bytes words.now) }
-    ensures denominator { HasDenominator (asked result) }
+    ensures ranges { HasRanges (asked result) }
 {
     match words {
         [word, net] => command_on_one(word.as_str(), net.as_str()),
@@ -138,6 +176,7 @@ pub fn file_of<'a>(command: Command<'a>, role: FileRole) -> &'a str
         (FileRole::Net, Command::AuditWith { net, .. }) => net,
         (FileRole::Net, Command::Refute { net, .. } | Command::Scale { net, .. }) => net,
         (FileRole::Net, Command::Overload { net }) => net,
+        (FileRole::Net, Command::Frames { net, .. } | Command::Plan { net, .. }) => net,
         _ => "",
     }
 }

@@ -199,6 +199,11 @@ fn push_message(line: &mut LineSink, outcome: &Outcome)
         Outcome::PivotLimit(j) => push_numbered(line, b"pivots ", *j),
         Outcome::SweepLimit(e) => push_numbered(line, b"sweeps ", *e),
         Outcome::Uneven(l) => push_numbered(line, b"uneven link ", *l),
+        Outcome::LongFrames => push_text(line, b"frames per"),
+        Outcome::FastFrames(l) => push_numbered(line, b"frames rate ", *l),
+        Outcome::CyclicPlan(l) => push_numbered(line, b"plan cycle link ", *l),
+        Outcome::FullPlan(j) => push_numbered(line, b"plan full junction ", *j),
+        Outcome::PlanOverflow => push_text(line, b"overflow plan"),
         Outcome::Run(end) => push_end(line, *end),
         Outcome::Differs { line: number } => {
             push_text(line, b"log differs ");

@@ -106,6 +106,17 @@ pub enum Outcome {
     /// This link is fed with a burst of 0 and a rate that is not a multiple of the rate length, and no link of lower
     /// number is.
     Uneven(LinkNo),
+    /// The rate length of the frame network is above 3,600 periods.
+    LongFrames,
+    /// The rate of this link in the frame network is above 1,000 vehicles a period, and that of no link of lower
+    /// number is.
+    FastFrames(LinkNo),
+    /// Movements lead from this link back to it, and from no link of lower number.
+    CyclicPlan(LinkNo),
+    /// The greens of this junction sum to more than the cycle of the plan.
+    FullPlan(JunctionNo),
+    /// A calculation of the plan exceeds 128 bits, or a bound of it has no room.
+    PlanOverflow,
     /// The line of the input is the first that differs from a log.
     Differs { line: u64 },
     /// The input met a fault while a log was read.
@@ -143,7 +154,7 @@ pub fn status_of(outcome: &Outcome) -> u8
         Outcome::Admitted | Outcome::Critical(_) | Outcome::Overloaded(_) => 4,
         Outcome::Certificate(_) | Outcome::NoCertificate => 4,
         Outcome::ZeroVector | Outcome::WeakVector => 4,
-        Outcome::Overflow(_) | Outcome::GrowthOverflow => 5,
+        Outcome::Overflow(_) | Outcome::GrowthOverflow | Outcome::PlanOverflow => 5,
         Outcome::PivotLimit(_) => 6,
         Outcome::Read => 10,
         Outcome::Write => 11,
@@ -151,5 +162,7 @@ pub fn status_of(outcome: &Outcome) -> u8
         Outcome::Differs { .. } => 13,
         Outcome::SweepLimit(_) => 15,
         Outcome::Uneven(_) => 16,
+        Outcome::CyclicPlan(_) | Outcome::FullPlan(_) => 17,
+        Outcome::LongFrames | Outcome::FastFrames(_) => 18,
     }
 }

@@ -1,7 +1,7 @@
 //! The top call.
 ghost use Rattle.std.specs.Prelude.{◌≡◌, ◌⊎◌, ◌↔◌, map, string_bytes};
 ghost use Rattle.mp_edge.specs.Outside.{Rose};
-ghost use Rattle.mp_cli.specs.Commands.{asked, command_of, HasDenominator, Unknown};
+ghost use Rattle.mp_cli.specs.Commands.{asked, command_of, HasRanges, Unknown};
 ghost use Rattle.mp_cli.specs.Complete.{IsGood, IsExcessive};
 ghost use Rattle.mp_cli.specs.Ends.{Means, IsEnd};
 ghost use Rattle.mp_cli.specs.Headline.{Does, OfNetwork, KeepsPromise};
@@ -14,9 +14,11 @@ use crate::checking::check;
 use crate::command::{Command, command_of};
 use crate::controlling::control;
 use crate::demonstrating::demo;
+use crate::framing::frames;
 use crate::message::put_message;
 use crate::outcome::{Outcome, status_of};
 use crate::overloading::overload;
+use crate::planning::plan;
 use crate::refuting::refute;
 use crate::running::run;
 use crate::running_with::run_with;
@@ -33,7 +35,7 @@ fn obey<St: Store, In: Source, Out: Sink>(
     input: &mut In,
     out: &mut Out,
 ) -> Outcome
-    requires { HasDenominator (asked command) }
+    requires { HasRanges (asked command) }
     ensures means { Means (asked command.entry) result (record { files = St.files store.old; input_before = In.left input.old; input_after = In.left input.new; output_before = Out.held out.old; output_after = Out.held out.new }) }
     ensures store { status_of result ≡ 2 → Rose (St.faults store.old) (St.faults store.new) }
     ensures read { status_of result ≡ 10 → Rose (In.faults input.old) (In.faults input.new) }
@@ -52,6 +54,8 @@ fn obey<St: Store, In: Source, Out: Sink>(
         Command::Demo(n) => demo(alloc, n, out),
         Command::Scale { net, d } => scale(alloc, net, d, store, out),
         Command::Overload { net } => overload(alloc, net, store, out),
+        Command::Frames { net, f } => frames(alloc, net, f, store, input, out),
+        Command::Plan { net, c } => plan(alloc, net, c, store, input, out),
         Command::Unknown => Outcome::Words,
     }
 }
@@ -67,7 +71,9 @@ fn obey<St: Store, In: Source, Out: Sink>(
 /// of a certificate; `control NET` answers each line of counts on `input` with the stages of greatest
 /// pressure at these, and seeks no certificate; `demo N` writes the summary of a long run on a network of
 /// its own; `scale NET D` writes the greatest certificate over a denominator; `overload NET` writes how
-/// fast the queues of an overloaded network grow, whatever its junctions show.
+/// fast the queues of an overloaded network grow, whatever its junctions show; `frames NET F` runs the
+/// stream by frames of F periods, with the greatest slack of the frame network and the bounds of frames;
+/// `plan NET C` runs it by a cyclic plan of C periods, with the bounds of the plan.
 ///
 /// Every status but 0 has its line on `err`, whose faults are ignored: 1 for words that are not listed,
 /// 2 for a fault of the store, 3 for the first rule that the network file breaks and for another file
@@ -80,12 +86,14 @@ fn obey<St: Store, In: Source, Out: Sink>(
 /// long or not in the grammar, 8 for the first period of the stream in which some link does not keep to
 /// its bucket, 9 for more than 2^48 lines, 10 for a fault of the input, 11 for one of the output, 12 where
 /// memory ran out, which comes before the first byte is put, 13 for the first line that differs from a
-/// log, 15 for the limit of sweeps, and 16 for the least link on which even arrivals are not permitted.
+/// log, 15 for the limit of sweeps, 16 for the least link on which even arrivals are not permitted, 17 for
+/// the least link on a cycle of movements and for the first junction whose greens don't fit into the cycle
+/// of a plan, and 18 for a rate length or the least link with a rate that no frame network has.
 ///
-/// Refusals come in the order of the layers: the network file, the other file, the verdict, the check of
-/// the certificate, its bounds, and then the input and the output, which no refusal before touches. Each
-/// layer says both ways whether it refuses: a stream is run, and a log read, only on a network whose
-/// verdict, check and bounds exceed nothing.
+/// Refusals come in the order of the layers: the network file, the frame network, the other file, the plan
+/// or the verdict, the check of the certificate, its bounds, and then the input and the output, which no
+/// refusal before touches. Each layer says both ways whether it refuses: a stream is run, and a log read,
+/// only on a network whose verdict, check and bounds, or whose plan, exceed nothing.
 pub fn top<St: Store, In: Source, Out: Sink, Er: Sink>(
     alloc: Global,
     words: &[String],
