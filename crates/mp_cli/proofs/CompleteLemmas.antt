@@ -5,6 +5,7 @@ use Rattle.mp_edge.specs.Outside.{Tells, OfFile}
 use Rattle.mp_model.specs.Bounds.{AreBounds}
 use Rattle.mp_model.specs.Certificate.{Cert}
 use Rattle.mp_model.specs.Frames.{frame_network, framed_after, framed_lines_from, framed_opening}
+use Rattle.mp_model.specs.Guard as model
 use Rattle.mp_model.specs.Load.{ShowsOverload, IsTight, load, capacity}
 use Rattle.mp_model.specs.Log.{end_line}
 use Rattle.mp_model.specs.Network.{Network, entry}
@@ -18,6 +19,7 @@ use Rattle.mp_cert.specs.TextMeaning.{cert_meaning, vector_meaning}
 use Rattle.mp_frame.specs.FrameNet.{frame_fault}
 use Rattle.mp_flow.specs.declared.network.Place.TheVariants as at
 use Rattle.mp_gen.specs.DemoNetwork.{demo_network}
+use Rattle.mp_guard.specs.Bursts.{ComeToRest}
 use Rattle.mp_netfile.specs.Meaning.{file_meaning}
 use Rattle.mp_frame_run.specs.Running.{framed_course}
 use Rattle.mp_plan_run.specs.Running.{plan_course}
@@ -26,11 +28,11 @@ use Rattle.mp_trial.specs.Search.{scaled, Found}
 use Rattle.mp_cli.specs.declared.outcome.FileRole.TheVariants as file
 use Rattle.mp_cli.specs.declared.outcome.TextKind.{TextKind}
 use Rattle.mp_cli.specs.declared.outcome.Outcome.{Outcome}
-use Rattle.mp_cli.specs.declared.outcome.Outcome.TheVariants.{Done, Store, Network as BadNetwork, LongText, Text, Admitted, Critical, Overloaded, Certificate, ZeroVector, WeakVector, NoCertificate, Overflow, GrowthOverflow, PivotLimit, SweepLimit, Uneven, LongFrames, FastFrames, CyclicPlan, FullPlan, PlanOverflow, Differs, Read, Write, NoMemory}
+use Rattle.mp_cli.specs.declared.outcome.Outcome.TheVariants.{Done, Store, Network as BadNetwork, LongText, Text, Admitted, Critical, Overloaded, Certificate, ZeroVector, WeakVector, NoCertificate, Overflow, GrowthOverflow, PivotLimit, SweepLimit, Uneven, LongFrames, FastFrames, CyclicPlan, FullPlan, PlanOverflow, NoGuard, FullGuard, BurstLimit, Differs, Read, Write, NoMemory}
 use Rattle.mp_cli.specs.Auditing.{audit_line, Compares}
 use Rattle.mp_cli.specs.Checking.{RefusesCert}
-use Rattle.mp_cli.specs.Commands.{Command, Run, RunWith, Show, Certify, Check, Refute, Audit, AuditWith, Control, Demo, Scale, Overload, Frames, Plan, Unknown}
-use Rattle.mp_cli.specs.Complete.{IsGoodFile, IsGoodText, IsGoodStream, IsExcessiveStream, IsGoodLog, IsRunnableCert, IsGoodVector, IsAdmittable, IsGrowing, IsRunnableFramesCert, IsPlannable, CanRun, IsGood, IsExcessive}
+use Rattle.mp_cli.specs.Commands.{Command, Run, RunWith, Show, Certify, Check, Refute, Audit, AuditWith, Control, Demo, Scale, Overload, Frames, Plan, Guard, Unknown}
+use Rattle.mp_cli.specs.Complete.{IsGoodFile, IsGoodText, IsGoodStream, IsExcessiveStream, IsGoodLog, IsRunnableCert, IsGoodVector, IsAdmittable, IsGrowing, IsRunnableFramesCert, IsPlannable, IsGuardable, CanRun, IsGood, IsExcessive}
 use Rattle.mp_cli.specs.Ends.{Means}
 use Rattle.mp_cli.specs.Opening.{Reads, RefusesNetwork, RefusesText}
 use Rattle.mp_cli.specs.Ports.{Files, Ports, IsUntouched, Writes}
@@ -39,6 +41,7 @@ use Rattle.mp_cli.specs.Framing.{IsUnframed, IsUnopenedFrames}
 use Rattle.mp_cli.specs.Planning.{IsUnplanned}
 use Rattle.mp_cli.specs.Scaling.{IsUnscaled}
 use Rattle.mp_cli.specs.Overloading.{IsNotOverloaded, OfOverloaded, IsUntold}
+use Rattle.mp_cli.specs.Guarding.{IsUnguarded, HasNoBursts, OfFound}
 use Rattle.mp_cli.proofs.GrowthLemmas.{told_weighed}
 use Rattle.mp_cli.specs.Sessions.{IsUnopened, IsUnaccepted}
 use Rattle.mp_cli.specs.Statuses.{status_of}
@@ -162,6 +165,26 @@ told_memory (Overflow at.Vector) net good refused = absurd (told_weighed net _ g
 told_memory GrowthOverflow net good refused = absurd (let no = sym refused.2 ∙ good.told.1 in cc)
 told_memory NoMemory net good refused = refl
 told_memory outcome net good refused = absurd refused
+
+finding_memory : (outcome : Outcome) (net : Network) (cycle lost d : ℕ) → IsGuardable net cycle lost d → IsUnguarded outcome net cycle lost d → status_of outcome ≡ 12
+finding_memory NoGuard net cycle lost d good refused = absurd (let no = sym good.reached ∙ refused.0 in cc)
+finding_memory (SweepLimit e) net cycle lost d good refused = absurd (let no = sym good.reached ∙ refused.1 in cc)
+finding_memory (Overflow (at.Game j)) net cycle lost d good refused = absurd (let no = sym good.reached ∙ refused in cc)
+finding_memory (PivotLimit j) net cycle lost d good refused = absurd (let no = sym good.reached ∙ refused in cc)
+finding_memory (FullGuard j) net cycle lost d good refused = absurd (let no = sym good.reached ∙ refused in cc)
+finding_memory NoMemory net cycle lost d good refused = refl
+finding_memory outcome net cycle lost d good refused = absurd refused
+
+-- the guard that is found is the one of the stated calculation
+of_found : (net : Network) (cycle lost d : ℕ) (P : model.Guard → Type 0) (good : IsGuardable net cycle lost d) → OfFound net cycle lost d P → P good.guard
+of_found net cycle lost d P good found =
+    let same : found.guard ≡ good.guard = (let e = sym found.reached ∙ good.reached in cc) in
+    subst P same found.is
+
+bursts_memory : (outcome : Outcome) (net : Network) (guard : model.Guard) → ComeToRest net guard → HasNoBursts outcome net guard → status_of outcome ≡ 12
+bursts_memory BurstLimit net guard rest refused = absurd (refused rest)
+bursts_memory NoMemory net guard rest refused = refl
+bursts_memory outcome net guard rest refused = absurd refused
 
 -- what was written was written whole, where no write failed
 written_done : (outcome : Outcome) (ports : Ports) (text : List ℕ) → IsQuiet outcome → Writes outcome ports text → EndsIn 0 outcome
@@ -299,6 +322,11 @@ completes (Overload net) outcome ports quiet good means =
     goes 0 outcome (of_overloaded good.value _ good.is found) (told_memory outcome good.value good.is) (λ writes. written_done outcome ports _ quiet writes.1.answers.1)))
 completes (Frames net F) outcome ports quiet good means = good_run (Frames net F) outcome ports quiet good means
 completes (Plan net C) outcome ports quiet good means = good_run (Plan net C) outcome ports quiet good means
+completes (Guard net cycle lost d) outcome ports quiet good means =
+    goes 0 outcome means (network_memory outcome ports.files net _ quiet good) (λ reads.
+    let on = of_good file_meaning ports.files net _ _ good reads in
+    goes 0 outcome on.1 (finding_memory outcome good.value cycle lost d good.is) (λ found.
+    goes 0 outcome (of_found good.value cycle lost d _ good.is found) (bursts_memory outcome good.value good.is.guard good.is.rest) (λ writes. written_done outcome ports _ quiet writes.1.answers.1)))
 completes Unknown outcome ports quiet good means = absurd good
 
 pub exceeds : (command : Command) (outcome : Outcome) (ports : Ports) → IsQuiet outcome → IsExcessive command ports.files ports.input_before → Means command outcome ports → EndsIn 8 outcome

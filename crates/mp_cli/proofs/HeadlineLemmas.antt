@@ -19,7 +19,7 @@ use Rattle.mp_netfile.specs.Meaning.{file_meaning}
 use Rattle.mp_run.specs.declared.run.RunEnd.TheVariants as how
 use Rattle.mp_cli.specs.declared.outcome.Outcome.{Outcome}
 use Rattle.mp_cli.specs.declared.outcome.Outcome.TheVariants.{Done, Run as Ran}
-use Rattle.mp_cli.specs.Commands.{Command, Run, RunWith, Show, Certify, Check, Refute, Audit, AuditWith, Control, Demo, Scale, Overload, Frames, Plan, Unknown}
+use Rattle.mp_cli.specs.Commands.{Command, Run, RunWith, Show, Certify, Check, Refute, Audit, AuditWith, Control, Demo, Scale, Overload, Frames, Plan, Guard, Unknown}
 use Rattle.mp_cli.specs.Auditing.{Compares}
 use Rattle.mp_cli.specs.Demonstrating.{IsShownRun}
 use Rattle.mp_cli.specs.Ends.{Means}
@@ -116,6 +116,7 @@ does_done (Scale net d) ports means = of_reads file_meaning ports.files net _ _ 
 does_done (Overload net) ports means = of_reads file_meaning ports.files net _ _ (went means (λ no. no)) (λ n on. let found = went on.1 (λ no. no) in (found.vector, (went found.is (λ no. no)).1))
 does_done (Frames net F) ports means = absurd (went (went ((went ((went means (λ no. no)).is.1) (λ no. no)).1) (λ no. no)).is (λ no. no)).holds.is.1
 does_done (Plan net C) ports means = absurd (went ((went means (λ no. no)).is.1) (λ no. no)).is
+does_done (Guard net cycle lost d) ports means = of_reads file_meaning ports.files net _ _ (went means (λ no. no)) (λ n on. let found = went on.1 (λ no. no) in (found.guard, (went found.is (λ no. no)).1))
 does_done Unknown ports means = absurd (let no = means.0 in cc)
 
 does_run : (command : Command) (ports : Ports) → Means command (Ran how.Done) ports → Does command ports
@@ -148,6 +149,7 @@ does_run (Frames net F) ports means =
     let admitted = went framed.1 (λ no. no) in
     frames_done n F admitted.cert ports (went admitted.is (λ no. no)))
 does_run (Plan net C) ports means = of_reads file_meaning ports.files net _ (λ n. PlanHolds n C (WritesPlannedLog n ports)) (went means (λ no. no)) (λ n on. plan_done n C ports (went on.1 (λ no. no)))
+does_run (Guard net cycle lost d) ports means = absurd (went (went ((went means (λ no. no)).is.1) (λ no. no)).is (λ no. no)).1.answers.1
 does_run Unknown ports means = absurd (let no = means.0 in cc)
 
 zero_outcome : (outcome : Outcome) → status_of outcome ≡ 0 → (outcome ≡ Done) ⊎ (outcome ≡ Ran how.Done)
@@ -205,4 +207,5 @@ promised (Scale net d) outcome ports done means = promise_on outcome net ports _
 promised (Overload net) outcome ports done means = promise_on outcome net ports _ (not_refused outcome ports.files net done) means
 promised (Frames net F) outcome ports done means = promise_on outcome net ports _ (not_refused outcome ports.files net done) means
 promised (Plan net C) outcome ports done means = promise_on outcome net ports _ (not_refused outcome ports.files net done) means
+promised (Guard net cycle lost d) outcome ports done means = promise_on outcome net ports _ (not_refused outcome ports.files net done) means
 promised Unknown outcome ports done means = absurd (let wrong = means.0 in omega (arith, ap status_of wrong))

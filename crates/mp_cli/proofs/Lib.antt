@@ -3,6 +3,7 @@ pub mod OpeningLemmas
 pub mod SessionLemmas
 pub mod VectorLemmas
 pub mod GrowthLemmas
+pub mod GuardLemmas
 pub mod ControlLemmas
 pub mod StreamLemmas
 pub mod FrameLemmas

@@ -23,6 +23,7 @@ pub data Command : Type 0 where
   Overload : List ℕ → Command
   Frames : List ℕ → ℕ → Command
   Plan : List ℕ → ℕ → Command
+  Guard : List ℕ → ℕ → ℕ → ℕ → Command
   Unknown : Command
 
 -- This is the command of the code, with the names in place of what points to them.
@@ -41,6 +42,7 @@ asked (said.Scale net d) = Scale net.now d
 asked (said.Overload net) = Overload net.now
 asked (said.Frames net f) = Frames net.now f
 asked (said.Plan net c) = Plan net.now c
+asked (said.Guard net cycle lost d) = Guard net.now cycle lost d
 asked said.Unknown = Unknown
 
 -- The word is the one that is listed.
@@ -88,6 +90,19 @@ plan_with net None = Unknown
 abbrev pub plan_of : List ℕ → List ℕ → Command
 plan_of net cycle = plan_with net (count_of cycle)
 
+-- A guard has a cycle of 1 to 3,600 periods, a change of which loses at most one, and a denominator of 1 to 999,999,999.
+abbrev pub guard_on : List ℕ → ℕ → ℕ → ℕ → Command
+guard_on net cycle lost d = if is_in 1 3600 cycle && is_in 0 1 lost && is_in 1 999999999 d then Guard net cycle lost d else Unknown
+
+-- A guard is asked for by three counts.
+abbrev pub guard_with : List ℕ → Option ℕ → Option ℕ → Option ℕ → Command
+guard_with net (Some cycle) (Some lost) (Some d) = guard_on net cycle lost d
+guard_with net cycle lost d = Unknown
+
+-- This is the guard of a network with a cycle, the lost periods of a change, and a denominator.
+abbrev pub guard_of : List ℕ → List ℕ → List ℕ → List ℕ → Command
+guard_of net cycle lost denominator = guard_with net (count_of cycle) (count_of lost) (count_of denominator)
+
 -- A word asks for a command with the name of a network, or with a number.
 unfoldable pub command_on_one : List ℕ → List ℕ → Command
 command_on_one word net =
@@ -112,17 +127,23 @@ command_on_two word net other =
     else if is_word word (codes "plan") then plan_of net other
     else Unknown
 
--- The listed words are a word with a name or a number, or a word with the name of a network and another name or a number.
+-- A word asks for a command with the name of a network and three numbers.
+unfoldable pub command_on_four : List ℕ → List ℕ → List ℕ → List ℕ → List ℕ → Command
+command_on_four word net first second third = if is_word word (codes "guard") then guard_of net first second third else Unknown
+
+-- The listed words are a word with a name or a number, or a word with the name of a network and another name, or one or three numbers.
 abbrev pub command_of : List (List ℕ) → Command
 command_of (word ∷ net ∷ []) = command_on_one word net
 command_of (word ∷ net ∷ other ∷ []) = command_on_two word net other
+command_of (word ∷ net ∷ first ∷ second ∷ third ∷ []) = command_on_four word net first second third
 command_of words = Unknown
 
--- The numbers of a command are in their ranges: a denominator is at least 1 and has at most 9 digits, a frame has 2 to 60 periods, and a cycle 1 to 3,600.
+-- The numbers of a command are in their ranges: a denominator is at least 1 and has at most 9 digits, a frame has 2 to 60 periods, a cycle 1 to 3,600, and a change loses at most one.
 abbrev pub HasRanges : Command → Type 0
 HasRanges (Scale net d) = (1 ≤ d) × (d < 10 ^ 9)
 HasRanges (Frames net f) = (2 ≤ f) × (f ≤ 60)
 HasRanges (Plan net c) = (1 ≤ c) × (c ≤ 3600)
+HasRanges (Guard net cycle lost d) = ((1 ≤ cycle) × (cycle ≤ 3600)) × (lost ≤ 1) × (1 ≤ d) × (d < 10 ^ 9)
 HasRanges command = Unit {0}
 
 -- This is the name of a file of the command, and nothing where it has none.
@@ -144,4 +165,5 @@ file_of (Scale net d) Net = net
 file_of (Overload net) Net = net
 file_of (Frames net f) Net = net
 file_of (Plan net c) Net = net
+file_of (Guard net cycle lost d) Net = net
 file_of command role = []

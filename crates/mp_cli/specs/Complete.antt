@@ -6,6 +6,7 @@ use Rattle.mp_model.specs.Bounds.{AreBounds}
 use Rattle.mp_model.specs.Certificate.{Cert}
 use Rattle.mp_model.specs.ControlLog.{InputLine}
 use Rattle.mp_model.specs.Frames.{frame_network}
+use Rattle.mp_model.specs.Guard as model
 use Rattle.mp_model.specs.Load.{ShowsOverload, IsTight}
 use Rattle.mp_model.specs.Network.{Network}
 use Rattle.mp_model.specs.Slack.{IsSlack, IsGreatestSlack}
@@ -18,7 +19,9 @@ use Rattle.mp_cert.specs.Weighing.{weighed}
 use Rattle.mp_control.specs.Controlling as control
 use Rattle.mp_frame.specs.FrameBounds.{HasNoFrameRoom, PassesFrameBound}
 use Rattle.mp_frame.specs.FrameNet.{frame_fault}
+use Rattle.mp_finder.specs.Finding.{finding, Guarded}
 use Rattle.mp_gen.specs.DemoNetwork.{demo_network}
+use Rattle.mp_guard.specs.Bursts.{ComeToRest}
 use Rattle.mp_netfile.specs.Meaning.{file_meaning}
 use Rattle.mp_num.specs.Fraction.{Fraction}
 use Rattle.mp_plan.specs.Made.{IsRefused}
@@ -29,7 +32,7 @@ use Rattle.mp_verdict.specs.Stated.{Reached}
 use Rattle.mp_verdict.specs.Verdict.{verdict, Admitted}
 use Rattle.mp_verdict.specs.Verdict as judged
 use Rattle.mp_overload.specs.Evens.{uneven_link}
-use Rattle.mp_cli.specs.Commands.{Command, Run, RunWith, Show, Certify, Check, Refute, Audit, AuditWith, Control, Demo, Scale, Overload, Frames, Plan, Unknown}
+use Rattle.mp_cli.specs.Commands.{Command, Run, RunWith, Show, Certify, Check, Refute, Audit, AuditWith, Control, Demo, Scale, Overload, Frames, Plan, Guard, Unknown}
 use Rattle.mp_cli.specs.Overloading.{IsTold}
 use Rattle.mp_cli.specs.Ports.{Files}
 use Rattle.mp_cli.specs.Refuting.{IsFormed}
@@ -108,6 +111,12 @@ pub record IsGrowing (net : Network) : Type 0 where
   pub even : uneven_link net ≡ None
   pub told : IsTold net vector
 
+-- The stated calculation finds a guard, and its bursts come to rest.
+pub record IsGuardable (net : Network) (cycle lost d : ℕ) : Type 0 where
+  pub guard : model.Guard
+  pub reached : finding net cycle lost d ≡ Guarded guard
+  pub rest : ComeToRest net guard
+
 -- The network is admitted, and a stream can be run under its certificate.
 pub record IsRunnable (net : Network) : Type 0 where
   pub admitted : IsAdmittable net
@@ -156,6 +165,7 @@ IsGood (Scale net d) files left = IsGoodFile file_meaning files net (λ n. (cert
 IsGood (Overload net) files left = IsGoodFile file_meaning files net IsGrowing
 IsGood (Frames net F) files left = CanRun (Frames net F) files (λ n. IsGoodStream n left)
 IsGood (Plan net C) files left = CanRun (Plan net C) files (λ n. IsGoodStream n left)
+IsGood (Guard net cycle lost d) files left = IsGoodFile file_meaning files net (λ n. IsGuardable n cycle lost d)
 IsGood Unknown files left = ⊥
 
 -- The files of a command are good, and the stream is above a bucket.

@@ -2,6 +2,7 @@
 use Rattle.std.specs.Prelude.{◌≡◌, ◌+◌, ◌*ℤ◌, ◌≤ℤ◌, ℕ, ℤ, pos, List, [], ◌∷◌}
 use Rattle.mp_model.specs.Arrivals.{IsPermitted, arrivals_of}
 use Rattle.mp_model.specs.Certificate.{Cert, Certifies}
+use Rattle.mp_model.specs.Guard as model
 use Rattle.mp_model.specs.Log.{text_of, header_lines, line_after, period_line}
 use Rattle.mp_model.specs.Network.{Network}
 use Rattle.mp_model.specs.Pressure.{AllGreatest}
@@ -14,7 +15,7 @@ use Rattle.mp_netfile.specs.Meaning.{file_meaning}
 use Rattle.mp_control.specs.Controlling as control
 use Rattle.mp_run.specs.Running.{Finished}
 use Rattle.mp_cli.specs.declared.outcome.Outcome.TheVariants.{Done}
-use Rattle.mp_cli.specs.Commands.{Command, Run, RunWith, Show, Certify, Check, Refute, Audit, AuditWith, Control, Demo, Scale, Overload, Frames, Plan, Unknown}
+use Rattle.mp_cli.specs.Commands.{Command, Run, RunWith, Show, Certify, Check, Refute, Audit, AuditWith, Control, Demo, Scale, Overload, Frames, Plan, Guard, Unknown}
 use Rattle.mp_cli.specs.Opening.{Reads}
 use Rattle.mp_cli.specs.Ports.{Ports}
 use Rattle.mp_cli.specs.Sessions.{HoldsWith, HoldsWithGreatest}
@@ -29,6 +30,7 @@ use Rattle.mp_cli.specs.Scaling.{WritesScaled}
 use Rattle.mp_cli.specs.Overloading.{WritesGrowth}
 use Rattle.mp_cli.specs.Framing.{FramesHoldGreatest, WritesFramedLog}
 use Rattle.mp_cli.specs.Planning.{PlanHolds, WritesPlannedLog}
+use Rattle.mp_cli.specs.Guarding.{WritesGuard}
 
 -- The stream was read to its end, and the log of its run was put behind the header of the slack num/den and the bounds.
 abbrev pub WritesLog : Network → Ports → ℕ → ℕ → List ℕ → Type 0
@@ -54,6 +56,7 @@ Does (Scale net d) ports = Reads file_meaning ports.files net (λ n. (cert : Cer
 Does (Overload net) ports = Reads file_meaning ports.files net (λ n. (vector : List ℤ) × WritesGrowth Done n ports vector)
 Does (Frames net f) ports = Reads file_meaning ports.files net (λ n. FramesHoldGreatest n f (WritesFramedLog n f ports))
 Does (Plan net c) ports = Reads file_meaning ports.files net (λ n. PlanHolds n c (WritesPlannedLog n ports))
+Does (Guard net cycle lost d) ports = Reads file_meaning ports.files net (λ n. (guard : model.Guard) × WritesGuard Done n cycle lost d ports guard)
 Does Unknown ports = ⊥
 
 -- A period leads from one state to the next: each junction shows the stage of greatest pressure at the queues before the period, the lowest number on ties; so its line says; and after it what entered is what departed and what is queued.
@@ -91,4 +94,5 @@ OfNetwork (Scale net d) ports P = Reads file_meaning ports.files net P
 OfNetwork (Overload net) ports P = Reads file_meaning ports.files net P
 OfNetwork (Frames net f) ports P = Reads file_meaning ports.files net P
 OfNetwork (Plan net c) ports P = Reads file_meaning ports.files net P
+OfNetwork (Guard net cycle lost d) ports P = Reads file_meaning ports.files net P
 OfNetwork Unknown ports P = ⊥

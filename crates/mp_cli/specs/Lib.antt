@@ -21,6 +21,7 @@ pub mod Scaling
 pub mod Overloading
 pub mod Framing
 pub mod Planning
+pub mod Guarding
 pub mod Ends
 pub mod Headline
 pub mod Complete

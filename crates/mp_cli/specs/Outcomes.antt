@@ -10,6 +10,8 @@ use Rattle.mp_drift.specs.declared.session.OpenFault.{OpenFault}
 use Rattle.mp_drift.specs.declared.session.OpenFault.TheVariants as opening
 use Rattle.mp_scaled.specs.declared.fault.ScaleFault.{ScaleFault}
 use Rattle.mp_scaled.specs.declared.fault.ScaleFault.TheVariants as scaling
+use Rattle.mp_finder.specs.declared.fault.FindFault.{FindFault}
+use Rattle.mp_finder.specs.declared.fault.FindFault.TheVariants as finding
 use Rattle.mp_growth.specs.declared.fault.GrowthFault.{GrowthFault}
 use Rattle.mp_growth.specs.declared.fault.GrowthFault.TheVariants as growing
 use Rattle.mp_growth.specs.declared.fault.TrailFault.{TrailFault}
@@ -23,7 +25,9 @@ use Rattle.mp_plan.specs.declared.fault.PlanFault.TheVariants as planning
 use Rattle.mp_cli.specs.declared.outcome.CertRule.{CertRule}
 use Rattle.mp_cli.specs.declared.outcome.CertRule.TheVariants as rule
 use Rattle.mp_cli.specs.declared.outcome.Outcome.{Outcome}
-use Rattle.mp_cli.specs.declared.outcome.Outcome.TheVariants.{Certificate, Overflow, GrowthOverflow, PivotLimit, SweepLimit, Uneven, LongFrames, FastFrames, CyclicPlan, FullPlan, PlanOverflow, NoMemory}
+use Rattle.mp_cli.specs.declared.outcome.Outcome.TheVariants.{Certificate, Overflow, GrowthOverflow, PivotLimit, SweepLimit, Uneven, LongFrames, FastFrames, CyclicPlan, FullPlan, PlanOverflow, NoGuard, FullGuard, BurstLimit, NoMemory}
+use Rattle.mp_guard.specs.declared.fault.BurstFault.{BurstFault}
+use Rattle.mp_guard.specs.declared.fault.BurstFault.TheVariants as bursting
 
 -- This is the rule that a fault names; an overflow names none.
 abbrev pub broken_rule : CertFault → Option CertRule
@@ -99,3 +103,17 @@ outcome_of_plan planning.NoMemory = NoMemory
 -- This is the word for a vector whose load is at least what is served.
 abbrev pub word_of : Weighed → List ℕ
 word_of sums = if int_lt sums.served sums.load then codes "overloaded" else codes "tight"
+
+-- This is the outcome of a search for a guard that finds none.
+abbrev pub outcome_of_finding : FindFault → Outcome
+outcome_of_finding finding.NoRates = NoGuard
+outcome_of_finding finding.Sweeps = SweepLimit 0
+outcome_of_finding (finding.Overflow j) = Overflow (at.Game j)
+outcome_of_finding (finding.PivotLimit j) = PivotLimit j
+outcome_of_finding (finding.Full j) = FullGuard j
+outcome_of_finding finding.NoMemory = NoMemory
+
+-- This is the outcome of bursts that are not found.
+abbrev pub outcome_of_bursts : BurstFault → Outcome
+outcome_of_bursts bursting.Sweeps = BurstLimit
+outcome_of_bursts bursting.NoMemory = NoMemory

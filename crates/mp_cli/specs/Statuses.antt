@@ -3,7 +3,7 @@ use Rattle.std.specs.Prelude.{◌≡◌, ℕ}
 use Rattle.mp_run.specs.declared.run.RunEnd.{RunEnd}
 use Rattle.mp_run.specs.declared.run.RunEnd.TheVariants as end
 use Rattle.mp_cli.specs.declared.outcome.Outcome.{Outcome}
-use Rattle.mp_cli.specs.declared.outcome.Outcome.TheVariants.{Done, Run, Words, Store, Network, LongText, Text, Admitted, Critical, Overloaded, Certificate, ZeroVector, WeakVector, NoCertificate, Overflow, GrowthOverflow, PivotLimit, SweepLimit, Uneven, LongFrames, FastFrames, CyclicPlan, FullPlan, PlanOverflow, Differs, Read, Write, NoMemory}
+use Rattle.mp_cli.specs.declared.outcome.Outcome.TheVariants.{Done, Run, Words, Store, Network, LongText, Text, Admitted, Critical, Overloaded, Certificate, ZeroVector, WeakVector, NoCertificate, Overflow, GrowthOverflow, PivotLimit, SweepLimit, Uneven, LongFrames, FastFrames, CyclicPlan, FullPlan, PlanOverflow, NoGuard, FullGuard, BurstLimit, Differs, Read, Write, NoMemory}
 
 -- This is the status of a run's end.
 abbrev pub run_status : RunEnd → ℕ
@@ -45,6 +45,9 @@ status_of (CyclicPlan link) = 17
 status_of (FullPlan j) = 17
 status_of LongFrames = 18
 status_of (FastFrames link) = 18
+status_of BurstLimit = 15
+status_of NoGuard = 19
+status_of (FullGuard j) = 19
 
 -- An outcome is no fault of the input or the output.
 pub record HasNoPortFault (outcome : Outcome) : Type 0 where

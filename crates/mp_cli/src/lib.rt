@@ -10,6 +10,7 @@ mod controlling;
 mod demonstrating;
 mod ending;
 mod framing;
+mod guarding;
 mod message;
 mod opening;
 mod outcome;

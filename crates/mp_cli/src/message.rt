@@ -204,6 +204,9 @@ fn push_message(line: &mut LineSink, outcome: &Outcome)
         Outcome::CyclicPlan(l) => push_numbered(line, b"plan cycle link ", *l),
         Outcome::FullPlan(j) => push_numbered(line, b"plan full junction ", *j),
         Outcome::PlanOverflow => push_text(line, b"overflow plan"),
+        Outcome::NoGuard => push_text(line, b"guard none"),
+        Outcome::FullGuard(j) => push_numbered(line, b"guard full ", *j),
+        Outcome::BurstLimit => push_text(line, b"sweeps bound"),
         Outcome::Run(end) => push_end(line, *end),
         Outcome::Differs { line: number } => {
             push_text(line, b"log differs ");

@@ -117,6 +117,12 @@ pub enum Outcome {
     FullPlan(JunctionNo),
     /// A calculation of the plan exceeds 128 bits, or a bound of it has no room.
     PlanOverflow,
+    /// No guard of the network has the denominator that was asked for.
+    NoGuard,
+    /// The greens of this junction and their lost periods don't fit into the cycle, and those of each before it do.
+    FullGuard(JunctionNo),
+    /// The bursts of the guard are not at rest after the last sweep.
+    BurstLimit,
     /// The line of the input is the first that differs from a log.
     Differs { line: u64 },
     /// The input met a fault while a log was read.
@@ -160,9 +166,10 @@ pub fn status_of(outcome: &Outcome) -> u8
         Outcome::Write => 11,
         Outcome::NoMemory => 12,
         Outcome::Differs { .. } => 13,
-        Outcome::SweepLimit(_) => 15,
+        Outcome::SweepLimit(_) | Outcome::BurstLimit => 15,
         Outcome::Uneven(_) => 16,
         Outcome::CyclicPlan(_) | Outcome::FullPlan(_) => 17,
         Outcome::LongFrames | Outcome::FastFrames(_) => 18,
+        Outcome::NoGuard | Outcome::FullGuard(_) => 19,
     }
 }

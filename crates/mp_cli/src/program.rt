@@ -15,6 +15,7 @@ use crate::command::{Command, command_of};
 use crate::controlling::control;
 use crate::demonstrating::demo;
 use crate::framing::frames;
+use crate::guarding::guard;
 use crate::message::put_message;
 use crate::outcome::{Outcome, status_of};
 use crate::overloading::overload;
@@ -56,6 +57,12 @@ fn obey<St: Store, In: Source, Out: Sink>(
         Command::Overload { net } => overload(alloc, net, store, out),
         Command::Frames { net, f } => frames(alloc, net, f, store, input, out),
         Command::Plan { net, c } => plan(alloc, net, c, store, input, out),
+        Command::Guard {
+            net,
+            cycle,
+            lost,
+            d,
+        } => guard(alloc, net, cycle, lost, d, store, out),
         Command::Unknown => Outcome::Words,
     }
 }
@@ -73,7 +80,9 @@ fn obey<St: Store, In: Source, Out: Sink>(
 /// its own; `scale NET D` writes the greatest certificate over a denominator; `overload NET` writes how
 /// fast the queues of an overloaded network grow, whatever its junctions show; `frames NET F` runs the
 /// stream by frames of F periods, with the greatest slack of the frame network and the bounds of frames;
-/// `plan NET C` runs it by a cyclic plan of C periods, with the bounds of the plan.
+/// `plan NET C` runs it by a cyclic plan of C periods, with the bounds of the plan; `guard NET C L D` writes
+/// a guard with a cycle of C periods, a change of stage that loses L, and the denominator D, whose rates are
+/// the least.
 ///
 /// Every status but 0 has its line on `err`, whose faults are ignored: 1 for words that are not listed,
 /// 2 for a fault of the store, 3 for the first rule that the network file breaks and for another file
@@ -88,7 +97,8 @@ fn obey<St: Store, In: Source, Out: Sink>(
 /// memory ran out, which comes before the first byte is put, 13 for the first line that differs from a
 /// log, 15 for the limit of sweeps, 16 for the least link on which even arrivals are not permitted, 17 for
 /// the least link on a cycle of movements and for the first junction whose greens don't fit into the cycle
-/// of a plan, and 18 for a rate length or the least link with a rate that no frame network has.
+/// of a plan, 18 for a rate length or the least link with a rate that no frame network has, and 19 where no
+/// guard has the denominator, or for the first junction whose greens don't fit into the cycle of a guard.
 ///
 /// Refusals come in the order of the layers: the network file, the frame network, the other file, the plan
 /// or the verdict, the check of the certificate, its bounds, and then the input and the output, which no
