@@ -4,6 +4,7 @@ use crate::certificates::{checked, read_certificate, read_vector, weighed};
 use crate::delays::delayed;
 use crate::digits::written;
 use crate::files::{Files, Stop, lines, word};
+use crate::guards::{found, read};
 use crate::networks::{network, shown};
 use crate::numbers::{bounds_under, drift_numbers, flow_pair, verdict, worths};
 use crate::periods::{periods, weights};
@@ -68,6 +69,8 @@ fn of_network(alloc: Global, command: &str, net: &Net, case: &str) -> Result<Str
         "rules" => checked(alloc, net, case),
         "weigh" => weighed(alloc, net, case),
         "certificate" => read_certificate(alloc, net, lines(alloc, case)?.as_bytes()),
+        "guard" => found(alloc, net, case),
+        "guarded" => read(alloc, net, lines(alloc, case)?.as_bytes()),
         "vector" => {
             let (room, text) = word(case)?;
             read_vector(alloc, net, size(room)?, lines(alloc, text)?.as_bytes())

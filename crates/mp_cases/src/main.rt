@@ -11,6 +11,7 @@ mod delays;
 mod digits;
 mod failing;
 mod files;
+mod guards;
 mod networks;
 mod numbers;
 mod periods;
