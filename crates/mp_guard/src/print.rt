@@ -11,8 +11,8 @@ use mp_edge::Sink;
 use mp_net::NoMemory;
 use std::alloc::{AllocError, Global};
 
-// Appends the digits of a number.
-fn push_digits(text: &mut Vec<u8>, number: u128) -> Result<(), AllocError>
+/// Appends the digits of a number.
+pub fn push_digits(text: &mut Vec<u8>, number: u128) -> Result<(), AllocError>
     ensures { OnOk result (text.new.items ≡ text.old.items ++ decimal number) }
 {
     let mut buffer = Buffer::new();
@@ -67,8 +67,8 @@ fn push_all_greens(text: &mut Vec<u8>, greens: &[Vec<u128>]) -> Result<(), Alloc
     Ok(())
 }
 
-// Appends the text of the guard.
-fn push_guard(text: &mut Vec<u8>, guard: &Guard) -> Result<(), AllocError>
+/// Appends the text of the guard.
+pub fn push_guard(text: &mut Vec<u8>, guard: &Guard) -> Result<(), AllocError>
     ensures { OnOk result (text.new.items ≡ text.old.items ++ guard_text guard.now) }
 {
     push_line(text, b"guard 1", &[])?;
