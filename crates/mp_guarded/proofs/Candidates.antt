@@ -158,7 +158,7 @@ no_lost (Some r) s = refl
 kept_at_no_loss : (lost : ℕ) (before : Option ℕ) (s : ℕ) → lost ≡ 0 → is_change lost before s ≡ false
 kept_at_no_loss lost before s e = ap (λ n. is_change n before s) e ∙ no_lost before s
 
-candidate_of : (guard : Guard) (j : Junction) (counts : ℕ → ℕ) (t : ℕ) (account : Account) → length account.owed ≡ length j.stages → t % guard.cycle + 1 ≤ guard.cycle → 1 ≤ length j.stages →
+pub candidate_of : (guard : Guard) (j : Junction) (counts : ℕ → ℕ) (t : ℕ) (account : Account) → length account.owed ≡ length j.stages → t % guard.cycle + 1 ≤ guard.cycle → 1 ≤ length j.stages →
     (before : Option ℕ) → account.before ≡ before → ((r : ℕ) → before ≡ Some r → (1 ≤ r) × (r ≤ length j.stages)) → needed_before guard.lost account.owed before + t % guard.cycle ≤ guard.cycle → (s : ℕ) × IsCandidate guard j counts t account s
 candidate_of guard j counts t account len place stages before e range fits = ⊎_elim
     (λ none. (1, takes_any guard j counts t account len place stages none))

@@ -56,7 +56,7 @@ turned k (x ∷ xs) h = ⊎_elim
     (λ e. or_right (x == k) (has xs k) (turned k xs e))
     (or_cases (k == x) (list_any (λ x. k == x) xs) h)
 
-taken_is : (net : Network) (guard : Guard) (j : Junction) (counts : ℕ → ℕ) (t : ℕ) (account : Account) → ((r : ℕ) → account.before ≡ Some r → (1 ≤ r) × (r ≤ length j.stages)) → (s : ℕ) → IsCandidate guard j counts t account s →
+pub taken_is : (net : Network) (guard : Guard) (j : Junction) (counts : ℕ → ℕ) (t : ℕ) (account : Account) → ((r : ℕ) → account.before ≡ Some r → (1 ≤ r) × (r ≤ length j.stages)) → (s : ℕ) → IsCandidate guard j counts t account s →
     IsCandidate guard j counts t account (guarded_stage net guard j counts t account)
 taken_is net guard j counts t account range s c =
     let key : ℕ → ℤ = λ s. pos (pressure net counts (stage_at j s)) in

@@ -1,0 +1,4 @@
+pub mod Accounts
+pub mod Choosing
+pub mod Views
+pub mod OwedView
