@@ -8,4 +8,6 @@ mod answering;
 mod driving;
 mod input;
 
+pub use answering::{put_answer, put_end};
 pub use driving::{ControlEnd, control};
+pub use input::{InputKind, read_input};
