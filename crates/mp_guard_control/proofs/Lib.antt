@@ -1,0 +1,4 @@
+pub mod AccountLemmas
+pub mod KeptLemmas
+pub mod ProgressLemmas
+pub mod SizeLemmas

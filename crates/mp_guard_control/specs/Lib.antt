@@ -1,0 +1,4 @@
+pub mod Accounts
+pub mod Controller
+pub mod Driving
+pub mod Kept
