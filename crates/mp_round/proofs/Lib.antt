@@ -7,3 +7,5 @@ pub mod Choices
 pub mod Deciding
 pub mod Closing
 pub mod Readying
+pub mod Quiet
+pub mod Idling

@@ -13,6 +13,7 @@ use Rattle.mp_model.specs.Run.{opening}
 use Rattle.mp_model.specs.Step.{AreStages, received_by}
 use Rattle.mp_press.proofs.Known.{all_known, has_numbers, kept_differ}
 use Rattle.mp_press.proofs.Writes.{numbers_by_all}
+use Rattle.mp_press.specs.Weighed.{Weighed}
 use Rattle.mp_press.specs.Written.{IsAmong}
 use Rattle.mp_step.specs.Standing.{IsOn, Standing, Stands}
 use Rattle.mp_step.specs.Taken.{HasTaken}
@@ -20,8 +21,8 @@ use Rattle.mp_round.specs.RoundView.{RoundView, AreDecided, HasPlaces, IsRoundOn
 use Rattle.mp_round.proofs.Counting.{map_more}
 
 -- a round by its parts
-abbrev pub shown_by : Standing → List (List (Option Copy)) → List (Option ℕ) → List ℕ → RoundView
-shown_by standing copies decided last = record { standing = standing; copies = copies; decided = decided; last = last }
+abbrev pub shown_by : Standing → Weighed → List (List (Option Copy)) → List (Option ℕ) → List ℕ → RoundView
+shown_by standing weighed copies decided last = record { standing = standing; weighed = weighed; copies = copies; decided = decided; last = last }
 
 pub targets_differ : (net : Network) (j : Junction) → IsDistinct ◌==◌ (targets net j)
 targets_differ net j = kept_differ (λ l. list_any (λ k. goes_to (to_of net k) l) (own net j)) (length net.links)
@@ -35,7 +36,7 @@ row_places net copies j h known =
     let count = rows_count net copies h in
     sym (get_or-map (λ row. length row) copies (j - 1) [] 0 (omega (arith, known, count))) ∙ ap (λ xs. get_or xs (j - 1) 0) h ∙ get_or-map (λ j. length (targets net j)) net.junctions (j - 1) no_junction 0 (omega (arith, known))
 
-map_set : {X : Type 0} (f : X → ℕ) (xs : List X) (i : ℕ) (y d : X) → f y ≡ f (get_or xs i d) → map f (set xs i y) ≡ map f xs
+pub map_set : {X : Type 0} (f : X → ℕ) (xs : List X) (i : ℕ) (y d : X) → f y ≡ f (get_or xs i d) → map f (set xs i y) ≡ map f xs
 map_set f [] i y d e = refl
 map_set f (x ∷ xs) zero y d e = ap (λ n. n ∷ map f xs) e
 map_set f (x ∷ xs) (suc i) y d e = ap (λ ns. f x ∷ ns) (map_set f xs i y d e)
@@ -85,10 +86,10 @@ all_stages n (j ∷ js) (Some s ∷ ds) h e = (h.0, all_stages (n + 1) js ds h.1
 
 -- a round stays one of its network
 pub on_report : (net : Network) (round : RoundView) (j place : ℕ) (copy : Copy) → IsRoundOn net round → IsRoundOn net (with_report round j place copy)
-on_report net round j place copy h = record { on = h.on; places = places_put net round.copies (j - 1) place (Some copy) h.places; decided = h.decided; last = h.last }
+on_report net round j place copy h = record { on = h.on; cache = h.cache; counts = h.counts; places = places_put net round.copies (j - 1) place (Some copy) h.places; decided = h.decided; last = h.last }
 
 pub on_stage : (net : Network) (round : RoundView) (j s : ℕ) → (1 ≤ s) × (s ≤ length (junction_at net j).stages) → IsRoundOn net round → IsRoundOn net (with_stage round j s)
-on_stage net round j s stage h = record { on = h.on; places = h.places; decided = decided_put net.junctions round.decided (j - 1) s h.decided stage; last = h.last }
+on_stage net round j s stage h = record { on = h.on; cache = h.cache; counts = h.counts; places = h.places; decided = decided_put net.junctions round.decided (j - 1) s h.decided stage; last = h.last }
 
 -- a list of rows, where one row changes
 pub put_row : {V X : Type 0} (f : V → List X) (vs : List V) (n place : ℕ) (v v' : V) (x : X) → n < length vs → v ≡ get_or vs n v → f v' ≡ set (f v) place x → map f (set vs n v') ≡ set (map f vs) n (set (get_or (map f vs) n []) place x)
@@ -111,9 +112,9 @@ pub target_known : (net : Network) (j : Junction) (i : ℕ) → i < length (targ
 target_known net j i lt = all_known (λ l. list_any (λ k. goes_to (to_of net k) l) (own net j)) (length net.links) i 0 lt
 
 -- the opening
-pub opening_shown : (net : Network) → IsNetwork net → (st : Standing) (copies : List (List (Option Copy))) (decided : List (Option ℕ)) (last : List ℕ) → IsOn net st → Stands net st (opening net) → HasTaken net st [] → copies ≡ map (λ j. map (λ l. None) (targets net j)) net.junctions →
-    decided ≡ replicate (length net.junctions) None → last ≡ [] → core_of (shown_by st copies decided last) ≡ core_opening net
-opening_shown net ok st copies decided last on stands taken c d l =
+pub opening_shown : (net : Network) → IsNetwork net → (st : Standing) (weighed : Weighed) (copies : List (List (Option Copy))) (decided : List (Option ℕ)) (last : List ℕ) → IsOn net st → Stands net st (opening net) → HasTaken net st [] → copies ≡ map (λ j. map (λ l. None) (targets net j)) net.junctions →
+    decided ≡ replicate (length net.junctions) None → last ≡ [] → core_of (shown_by st weighed copies decided last) ≡ core_opening net
+opening_shown net ok st weighed copies decided last on stands taken c d l =
     let n = length net.links in
     let phases : st.phases ≡ map (λ l. 0) (link_numbers net) = numbers_by_all (λ l. 0) st.phases n on.phases (λ l h k. at_in (λ l. entry st.phases l ≡ received_by (opening net) l % net.shares) l (link_numbers net) (has_numbers n l (h, k)) stands.phases ∙ ap (λ r. r % net.shares) (numbered (λ l. 0) n l (has_numbers n l (h, k))) ∙ zero-mod net.shares) in
     let levels : st.levels ≡ map (λ l. 0) (link_numbers net) = numbers_by_all (λ l. 0) st.levels n on.levels (λ l h k. at_in (λ l. entry st.levels l ≡ 0) l (link_numbers net) (has_numbers n l (h, k)) taken.levels) in

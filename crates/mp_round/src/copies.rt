@@ -1,5 +1,5 @@
 //! The copies that the junctions have of the counts of the links that they feed.
-ghost use Rattle.std.specs.Prelude.{◌≡◌, ◌≤◌, ◌<◌, ◌-◌, [], ◌∷◌, ◌++◌, IfOk, OnOk, None, Some, length, map, replicate, slice_index_or, slice_set, not, is_none};
+ghost use Rattle.std.specs.Prelude.{◌≡◌, ◌≤◌, ◌<◌, ◌-◌, [], ◌∷◌, ◌++◌, IfOk, OnOk, None, Some, length, map, replicate, slice_index_or, slice_set, not, is_none, true};
 ghost use Rattle.mp_model.specs.Network.{targets};
 ghost use Rattle.mp_model.specs.EventCore.{accepted};
 
@@ -55,6 +55,18 @@ impl Copies {
         put_in(&mut self.rows[usize::from(j) - 1], place, report);
     }
 
+    /// There is no copy.
+    pub fn is_empty(&self) -> bool
+        ensures { result ≡ true → self.now ≡ map (map (λ copy. None)) self.now }
+    {
+        for i in 0..self.rows.len() {
+            if !has_no_report(&self.rows[i]) {
+                return false;
+            }
+        }
+        true
+    }
+
     /// Drops the copies that no decision of this period accepts.
     pub fn drop_old(&mut self, delay: u32, period: u64)
         ensures { self.new ≡ map (map (accepted delay period)) self.old }
@@ -99,6 +111,18 @@ fn put_in(row: &mut Vec<Option<Report>>, place: usize, report: Report)
     ensures { row.new.items ≡ slice_set row.old.items place (Some report) }
 {
     row[place] = Some(report);
+}
+
+// There is no report among those of one junction.
+fn has_no_report(row: &[Option<Report>]) -> bool
+    ensures { result ≡ true → row.now ≡ map (λ report. None) row.now }
+{
+    for i in 0..row.len() {
+        if row[i].is_some() {
+            return false;
+        }
+    }
+    true
 }
 
 // Drops the copies of one junction that no decision of this period accepts.

@@ -1,6 +1,7 @@
 //! A round: where a run stands within a period.
-ghost use Rattle.std.specs.Prelude.{◌≡◌, ◌≤◌, ◌<◌, ◌-◌, [], None, Some, IfOk, OnErr, length, map, unwrap_or, slice_index, slice_index_or, not, is_none, drop, ℕ, replicate, false};
+ghost use Rattle.std.specs.Prelude.{◌≡◌, ◌≤◌, ◌<◌, ◌-◌, [], None, Some, IfOk, OnErr, length, map, unwrap_or, slice_index, slice_index_or, not, is_none, drop, ℕ, replicate, true, false};
 ghost use Rattle.mp_model.specs.EventCore.{apply, all_lacking, arrivals_events, core_after, core_opening, first_undecided, is_stale, lacking, decided_at, seen};
+ghost use Rattle.mp_model.specs.EventCore.Answer.{closed};
 ghost use Rattle.mp_model.specs.EventCore.Event.{hear, decide, close};
 ghost use Rattle.mp_model.specs.Network.{entry, junction_at, out_of, targets};
 ghost use Rattle.mp_model.specs.Pressure.{greatest_stage_by};
@@ -14,6 +15,7 @@ use crate::report::Report;
 use arrayvec::ArrayVec;
 use mp_feed::NoMemory;
 use mp_net::{JunctionNo, LinkNo, Net, StageNo};
+use mp_press::Cache;
 use mp_step::{AboveAt, State};
 use std::alloc::{AllocError, Global};
 use std::marker::Model;
@@ -23,20 +25,26 @@ use std::marker::Model;
 #[derive(Drop)]
 pub struct Round {
     state: State,
+    // It stands for the queues of the state.
+    cache: Cache,
     copies: Copies,
     // The stage of each junction that has decided in this period.
     decided: Vec<Option<StageNo>>,
     // The stages of the last closed period, and none before one.
     last: ArrayVec<StageNo, 64>,
+    // Where it is set there is no copy, and nothing is decided.
+    quiet: bool,
 }
 
 impl Model for Round {
     ghost use Rattle.mp_round.specs.RoundView.{RoundView};
-    ghost use Rattle.mp_round.specs.Showing.{shown_of};
+    ghost use Rattle.mp_round.specs.Showing.{shown_of, IsQuiet};
 
     ghost Value = { RoundView };
 
     ghost view = { shown_of };
+
+    ghost invariant = { IsQuiet };
 }
 
 impl Round {
@@ -48,13 +56,18 @@ impl Round {
     {
         let _ = net.shares();
         let state = State::empty(alloc, net)?;
+        let Ok(cache) = Cache::new(alloc, net) else {
+            return Err(NoMemory);
+        };
         let copies = Copies::new(alloc, net)?;
         let decided = none_decided(alloc, usize::from(net.junctions()))?;
         Ok(Round {
             state,
+            cache,
             copies,
             decided,
             last: ArrayVec::new(),
+            quiet: true,
         })
     }
 
@@ -92,10 +105,10 @@ impl Round {
         ensures refused { OnErr result (core_of self.new ≡ core_after net.now (core_of self.old) (all_lacking net.now (core_of self.old))) }
         ensures on { IsRoundOn net.now self.new }
     {
-        for i in 0..net.junctions() {
-            self.ready(net, i + 1);
+        if self.close_quiet(net, arrivals) {
+            return Ok(());
         }
-        self.close_decided(net, arrivals)
+        self.close_readied(net, arrivals)
     }
 
     /// The stage of the junction in the last closed period.
@@ -137,6 +150,48 @@ impl Round {
         &self.state
     }
 
+    // Closes a period in which nothing was heard or decided, where each junction decides by the counts of now; and
+    // does nothing where something was, where the delay is not 0, and where a link would be above its bucket.
+    fn close_quiet(&mut self, net: &Net, arrivals: &[u64]) -> bool
+        requires on { IsRoundOn net.now self.old }
+        requires can { CanClose net.now (core_of self.old) arrivals.now }
+        ensures core { result ≡ true → core_of self.new ≡ core_after net.now (core_of self.old) (arrivals_events net.now (core_of self.old) arrivals.now) }
+        ensures answer { result ≡ true → closed ≡ (apply net.now (core_after net.now (core_of self.old) (all_lacking net.now (core_of self.old))) (close arrivals.now)).0 }
+        ensures stays { result ≡ false → self.new ≡ self.old }
+        ensures on { IsRoundOn net.now self.new }
+    {
+        let _ = net.shares();
+        if !self.quiet || net.delay() > 0 {
+            return false;
+        }
+        let mut stages = ArrayVec::new();
+        self.cache.choose_all(net, &mut stages);
+        let Ok(()) = self
+            .state
+            .close_queued(net, &stages, self.cache.queued(), arrivals)
+        else {
+            return false;
+        };
+        self.cache.renew(net, self.state.queues());
+        self.last = stages;
+        true
+    }
+
+    // Performs what the period lacks event by event, and closes it.
+    fn close_readied(&mut self, net: &Net, arrivals: &[u64]) -> Result<(), AboveAt>
+        requires on { IsRoundOn net.now self.old }
+        requires can { CanClose net.now (core_of self.old) arrivals.now }
+        ensures core { core_of self.new ≡ core_after net.now (core_of self.old) (arrivals_events net.now (core_of self.old) arrivals.now) }
+        ensures answer { closing_answer result ≡ (apply net.now (core_after net.now (core_of self.old) (all_lacking net.now (core_of self.old))) (close arrivals.now)).0 }
+        ensures refused { OnErr result (core_of self.new ≡ core_after net.now (core_of self.old) (all_lacking net.now (core_of self.old))) }
+        ensures on { IsRoundOn net.now self.new }
+    {
+        for i in 0..net.junctions() {
+            self.ready(net, i + 1);
+        }
+        self.close_decided(net, arrivals)
+    }
+
     // Puts a copy of the counts of now at a place of a junction.
     fn put_report(&mut self, net: &Net, j: JunctionNo, place: usize)
         requires on { IsRoundOn net.now self.old }
@@ -146,6 +201,7 @@ impl Round {
     {
         let report = Report::of(net, &self.state, net.targets(j)[place]);
         self.copies.put(j, place, report);
+        self.quiet = false;
     }
 
     // Fixes the stage of a junction.
@@ -158,6 +214,7 @@ impl Round {
     {
         let stage = choose_by(net, &self.state, &self.copies, j);
         self.decided[usize::from(j) - 1] = Some(stage);
+        self.quiet = false;
         stage
     }
 
@@ -222,10 +279,14 @@ impl Round {
     {
         let _ = net.shares();
         let stages = stages_of(&self.decided);
-        self.state.close(net, &stages, arrivals)?;
+        self.state
+            .close_queued(net, &stages, self.cache.queued(), arrivals)?;
+        self.cache.renew(net, self.state.queues());
         self.last = stages;
         undecide(&mut self.decided);
         self.copies.drop_old(net.delay(), self.state.period());
+        let unheard = self.copies.is_empty();
+        self.quiet = unheard;
         Ok(())
     }
 

@@ -2,6 +2,7 @@
 use super::*;
 use mp_model::limits::MOST_LINES;
 use mp_net::{JunctionPart, LinkPart, MovementPart, Name, Net, NetParts, build};
+use mp_step::AboveAt;
 use std::alloc::{AllocError, Global};
 use std::process::Abort;
 use std::test::Fail;
@@ -162,6 +163,40 @@ fn stages_of_a_merge(rt: HostRuntime) -> Result<(), Fail> {
     assert!(rt; round.state().period() < MOST_LINES);
     assert!(rt; round.close_all(&net, &[0, 0, 0]).is_ok());
     assert_eq!(rt; round.stages(), [2, 1].as_slice());
+    assert_eq!(rt; round.state().period(), 3);
+    Ok(())
+}
+
+#[test]
+fn lines_of_a_tandem(rt: HostRuntime) -> Result<(), Fail> {
+    let net = made(&rt, rt.alloc(), tandem(&rt, rt.alloc())?);
+    let Ok(mut round) = Round::new(rt.alloc(), &net) else {
+        panic!(rt; "there is memory");
+    };
+    assert_eq!(rt; net.junctions(), 2);
+    assert_eq!(rt; net.fed().len(), 1);
+    let hear = Event::Hear {
+        junction: 1,
+        link: 2,
+    };
+    assert_eq!(rt; round.apply(&net, &hear), Answer::Heard);
+    let first = Event::Decide { junction: 1 };
+    assert_eq!(rt; round.apply(&net, &first), Answer::Chose { stage: 1 });
+    assert!(rt; round.state().period() < MOST_LINES);
+    assert!(rt; round.close_all(&net, &[1]).is_ok());
+    assert!(rt; !round.heard(&net, 1, 2));
+    assert_eq!(rt; round.state().queues(), [1, 0].as_slice());
+    assert!(rt; round.state().period() < MOST_LINES);
+    assert!(rt; round.close_all(&net, &[1]).is_ok());
+    assert!(rt; !round.heard(&net, 1, 2));
+    assert_eq!(rt; round.state().queues(), [1, 1].as_slice());
+    assert!(rt; round.state().period() < MOST_LINES);
+    assert_eq!(rt; round.close_all(&net, &[1]), Err(AboveAt { link: 1 }));
+    assert!(rt; round.heard(&net, 1, 2));
+    assert!(rt; round.state().period() < MOST_LINES);
+    assert!(rt; round.close_all(&net, &[0]).is_ok());
+    assert_eq!(rt; round.stages(), [1, 1].as_slice());
+    assert_eq!(rt; round.state().queues(), [1, 0].as_slice());
     assert_eq!(rt; round.state().period(), 3);
     Ok(())
 }

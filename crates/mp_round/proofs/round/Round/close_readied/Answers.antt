@@ -2,7 +2,7 @@ use Rattle.std.proofs.Common.{◌≡◌, ◌+◌, ◌-◌, ◌∙◌, None, is_n
 use Rattle.mp_round.specs.Events.{closing_answer}
 use Rattle.mp_round.proofs.Placing.{decided_count}
 use Rattle.mp_round.proofs.Readying.{Readied, all_decided, performs, readies_more}
-use Rattle.mp_round.proofs.round.Round.close_all.Goals as goal
+use Rattle.mp_round.proofs.round.Round.close_readied.Goals as goal
 
 pub loop-i-preserved : goal.loop-i-preserved
 loop-i-preserved c =
