@@ -36,9 +36,9 @@ abbrev pub with_heard : Core → Core → Core
 with_heard core next = record core { copies = next.copies; decided = next.decided }
 
 -- and the number of places of each junction stays
-record KeepsMost (core next : Core) : Type 0 where
-  same : next ≡ with_heard core next
-  places : map (λ row. length row) next.copies ≡ map (λ row. length row) core.copies
+pub record KeepsMost (core next : Core) : Type 0 where
+  pub same : next ≡ with_heard core next
+  pub places : map (λ row. length row) next.copies ≡ map (λ row. length row) core.copies
 
 with_size : (ts : List ℕ) (row : List (Option Copy)) (l : ℕ) (new : Copy) → length (with_copy ts row l new) ≡ length row
 with_size [] row l new = refl
@@ -73,7 +73,7 @@ keeps_one net core (close counts) rest none = go (first_undecided 1 core.decided
     go None (Some l) none = (record { same = refl; places = refl }, none)
     go None None none = cc
 
-keeps : (net : Network) (core : Core) (es : List Event) → closed_of net core es ≡ [] → KeepsMost core (core_after net core es)
+pub keeps : (net : Network) (core : Core) (es : List Event) → closed_of net core es ≡ [] → KeepsMost core (core_after net core es)
 keeps net core [] none = record { same = refl; places = refl }
 keeps net core (e ∷ es) none =
     let one = keeps_one net core e (closed_of net (apply net core e).1 es) none in
@@ -141,12 +141,12 @@ idle_follows net core h = record {
     small_phase n m lt = sym (mod-eq_of_lt lt)
 
 -- the stages by reports of now are the greatest
-record PromptStages (net : Network) (history : History) (js : List Junction) (ds : List (Option ℕ)) (ages : List (List ℕ)) : Type 0 where
-  stages : map (λ d. unwrap_or d 0) ds ≡ map (λ p. reported_stage net history p.0 p.1) (zip js ages)
-  count : length ages ≡ length js
-  zeros : AllByRecursion (AllByRecursion (λ (n : ℕ). n ≡ 0)) ages
+pub record PromptStages (net : Network) (history : History) (js : List Junction) (ds : List (Option ℕ)) (ages : List (List ℕ)) : Type 0 where
+  pub stages : map (λ d. unwrap_or d 0) ds ≡ map (λ p. reported_stage net history p.0 p.1) (zip js ages)
+  pub count : length ages ≡ length js
+  pub zeros : AllByRecursion (AllByRecursion (λ (n : ℕ). n ≡ 0)) ages
 
-prompt_stages : (net : Network) → net.delay ≡ 0 → (history : History) (n : ℕ) (js : List Junction) (ds : List (Option ℕ)) (ages : List (List ℕ)) → RightStages net history js ds ages → first_undecided n ds ≡ None → PromptStages net history js ds ages
+pub prompt_stages : (net : Network) → net.delay ≡ 0 → (history : History) (n : ℕ) (js : List Junction) (ds : List (Option ℕ)) (ages : List (List ℕ)) → RightStages net history js ds ages → first_undecided n ds ≡ None → PromptStages net history js ds ages
 prompt_stages net prompt history n [] [] [] h e = record { stages = refl; count = refl; zeros = tt }
 prompt_stages net prompt history n [] [] (a ∷ ages) h e = absurd h
 prompt_stages net prompt history n [] (d ∷ ds) ages h e = absurd h
@@ -183,7 +183,7 @@ drops_rows net prompt period (j ∷ js) [] e h = cc
 drops_rows net prompt period (j ∷ js) (row ∷ rows) e h = ap₂ ◌∷◌ (drops_row net prompt period (targets net j) row (ap (λ ns. get_or ns 0 0) e) h.0) (drops_rows net prompt period js rows (ap (drop 1) e) h.1)
 
 -- then all have decided
-decided_then : (net : Network) (core : Core) (counts : List ℕ) (u above : Option ℕ) → ((close_at net core counts u above).0 ≡ closed) ⊎ ((l : ℕ) × ((close_at net core counts u above).0 ≡ above_at l)) → u ≡ None
+pub decided_then : (net : Network) (core : Core) (counts : List ℕ) (u above : Option ℕ) → ((close_at net core counts u above).0 ≡ closed) ⊎ ((l : ℕ) × ((close_at net core counts u above).0 ≡ above_at l)) → u ≡ None
 decided_then net core counts None above h = refl
 decided_then net core counts (Some j) above (inl e) = cc
 decided_then net core counts (Some j) above (inr e) = let is = e.1 in cc

@@ -4,3 +4,4 @@ pub mod Reporting
 pub mod Copying
 pub mod Deciding
 pub mod Showing
+pub mod Advancing

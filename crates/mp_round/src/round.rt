@@ -1,10 +1,15 @@
 //! A round: where a run stands within a period.
-ghost use Rattle.std.specs.Prelude.{◌≡◌, ◌≤◌, ◌<◌, ◌-◌, [], None, Some, IfOk, OnErr, length, map, unwrap_or, slice_index, slice_index_or, not, is_none, drop, ℕ, replicate, true, false};
+ghost use Rattle.std.specs.Prelude.{◌≡◌, ◌≤◌, ◌<◌, ◌-◌, [], List, None, Some, IfOk, IfErr, OnOk, OnErr, length, map, unwrap_or, slice_index, slice_index_or, not, is_none, drop, ℕ, replicate, true, false};
 ghost use Rattle.mp_model.specs.EventCore.{apply, all_lacking, arrivals_events, core_after, core_opening, first_undecided, is_stale, lacking, decided_at, seen};
 ghost use Rattle.mp_model.specs.EventCore.Answer.{closed};
 ghost use Rattle.mp_model.specs.EventCore.Event.{hear, decide, close};
 ghost use Rattle.mp_model.specs.Network.{entry, junction_at, out_of, targets};
 ghost use Rattle.mp_model.specs.Pressure.{greatest_stage_by};
+ghost use Rattle.mp_model.specs.Run.{opening};
+ghost use Rattle.mp_laws.specs.Buckets.{IsFirstAbove};
+ghost use Rattle.mp_step.specs.Standing.{Stands};
+ghost use Rattle.mp_step.specs.Taken.{HasTaken};
+ghost use Rattle.mp_round.specs.Advancing.{Advances};
 ghost use Rattle.mp_round.specs.Events.{answer_of, closing_answer, event_of, CanApply, CanClose};
 ghost use Rattle.mp_round.specs.RoundView.{IsRoundOn, core_of, with_report, with_stage};
 
@@ -52,6 +57,8 @@ impl Round {
     /// `NoMemory` comes only where memory runs out; no other call takes memory.
     pub fn new(alloc: Global, net: &Net) -> Result<Round, NoMemory>
         ensures opening { IfOk result (λ round. core_of round ≡ core_opening net.now) }
+        ensures stands { IfOk result (λ round. Stands net.now round.standing (opening net.now)) }
+        ensures taken { IfOk result (λ round. HasTaken net.now round.standing []) }
         ensures on { IfOk result (λ round. IsRoundOn net.now round) }
     {
         let _ = net.shares();
@@ -103,6 +110,9 @@ impl Round {
         ensures core { core_of self.new ≡ core_after net.now (core_of self.old) (arrivals_events net.now (core_of self.old) arrivals.now) }
         ensures answer { closing_answer result ≡ (apply net.now (core_after net.now (core_of self.old) (all_lacking net.now (core_of self.old))) (close arrivals.now)).0 }
         ensures refused { OnErr result (core_of self.new ≡ core_after net.now (core_of self.old) (all_lacking net.now (core_of self.old))) }
+        ensures stays { OnErr result (self.new.standing ≡ self.old.standing) }
+        ensures excess { IfErr result (λ above. (A : List (List ℕ)) → HasTaken net.now self.old.standing A → IsFirstAbove net.now A arrivals.now above.link) }
+        ensures advances { OnOk result (Advances net.now self.old.standing self.new.standing self.new.last arrivals.now) }
         ensures on { IsRoundOn net.now self.new }
     {
         if self.close_quiet(net, arrivals) {
@@ -158,6 +168,7 @@ impl Round {
         ensures core { result ≡ true → core_of self.new ≡ core_after net.now (core_of self.old) (arrivals_events net.now (core_of self.old) arrivals.now) }
         ensures answer { result ≡ true → closed ≡ (apply net.now (core_after net.now (core_of self.old) (all_lacking net.now (core_of self.old))) (close arrivals.now)).0 }
         ensures stays { result ≡ false → self.new ≡ self.old }
+        ensures advances { result ≡ true → Advances net.now self.old.standing self.new.standing self.new.last arrivals.now }
         ensures on { IsRoundOn net.now self.new }
     {
         let _ = net.shares();
@@ -184,6 +195,9 @@ impl Round {
         ensures core { core_of self.new ≡ core_after net.now (core_of self.old) (arrivals_events net.now (core_of self.old) arrivals.now) }
         ensures answer { closing_answer result ≡ (apply net.now (core_after net.now (core_of self.old) (all_lacking net.now (core_of self.old))) (close arrivals.now)).0 }
         ensures refused { OnErr result (core_of self.new ≡ core_after net.now (core_of self.old) (all_lacking net.now (core_of self.old))) }
+        ensures stays { OnErr result (self.new.standing ≡ self.old.standing) }
+        ensures excess { IfErr result (λ above. (A : List (List ℕ)) → HasTaken net.now self.old.standing A → IsFirstAbove net.now A arrivals.now above.link) }
+        ensures advances { OnOk result (Advances net.now self.old.standing self.new.standing self.new.last arrivals.now) }
         ensures on { IsRoundOn net.now self.new }
     {
         for i in 0..net.junctions() {
@@ -275,6 +289,8 @@ impl Round {
         requires decided { first_undecided 1 self.old.decided ≡ None }
         ensures applied { (closing_answer result, core_of self.new) ≡ apply net.now (core_of self.old) (close arrivals.now) }
         ensures refused { OnErr result (self.new ≡ self.old) }
+        ensures excess { IfErr result (λ above. (A : List (List ℕ)) → HasTaken net.now self.old.standing A → IsFirstAbove net.now A arrivals.now above.link) }
+        ensures advances { OnOk result (Advances net.now self.old.standing self.new.standing self.new.last arrivals.now) }
         ensures on { IsRoundOn net.now self.new }
     {
         let _ = net.shares();

@@ -1,10 +1,12 @@
-use Rattle.std.proofs.Common.{◌≡◌, ◌+◌, ◌∙◌, ℕ, None, Option, ap, ap₂, arith, length, map, subst, sym, unwrap_or}
+use Rattle.std.proofs.Common.{◌≡◌, ◌+◌, ◌∙◌, ℕ, List, None, Option, ap, ap₂, arith, length, map, subst, sym, unwrap_or}
 use Rattle.mp_model.specs.EventCore.{accepted, apply, first_undecided}
 use Rattle.mp_model.specs.EventCore.Answer.{closed as closed_answer}
 use Rattle.mp_model.specs.EventCore.Event.{close}
-use Rattle.mp_model.specs.Step.{AreStages}
-use Rattle.mp_step.specs.Standing.{closed}
+use Rattle.mp_model.specs.Arrivals.{arrivals_of}
+use Rattle.mp_model.specs.Step.{AreStages, State, step}
+use Rattle.mp_step.specs.Standing.{Stands, closed}
 use Rattle.mp_round.specs.RoundView.{AreDecided, HasPlaces, IsRoundOn, RoundView, core_of}
+use Rattle.mp_round.specs.Advancing.{Advances}
 use Rattle.mp_round.specs.Showing.{shown_of}
 use Rattle.mp_round.proofs.Closing.{closed_round, closes}
 use Rattle.mp_round.proofs.Placing.{all_stages, decided_count, none_decided, none_each, places_dropped, shown_by}
@@ -58,3 +60,14 @@ returns-clause-on c =
 
 pub invariant_of-self-2 : goal.invariant_of-self-2
 invariant_of-self-2 c = λ e. record { unheard = c.is_empty-unheard.ensures e; undecided = none_replicated c.undecide.new.decided.items (length c.self.inside.decided.items) c.undecide.ensures }
+
+pub returns-clause-advances : goal.returns-clause-advances
+returns-clause-advances c =
+    let net = c.args.net.now in
+    let s = c.self.inside in
+    subst (λ (round : RoundView). Advances net round.standing c.close_queued.new.self c.stages_of-stages.result.items c.args.arrivals.now) c.self.view_is
+    (record {
+      taken = c.in_ok-close_queued.ensures.taken;
+      step = subst (λ (ss : List ℕ). (state : State) → Stands net s.state state → Stands net c.close_queued.new.self (step net ss (arrivals_of net c.args.arrivals.now) state)) c.deref-2.ensures.0 c.in_ok-close_queued.ensures.step;
+      period = c.in_ok-close_queued.ensures.period;
+    })

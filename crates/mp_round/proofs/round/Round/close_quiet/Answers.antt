@@ -1,11 +1,14 @@
-use Rattle.std.proofs.Common.{◌≡◌, ◌∙◌, ap, arith, subst, sym}
+use Rattle.std.proofs.Common.{◌≡◌, ◌∙◌, ℕ, List, ap, arith, subst, sym}
 use Rattle.mp_model.specs.EventCore.{all_lacking, apply, arrivals_events, core_after}
 use Rattle.mp_model.specs.EventCore.Answer.{closed}
 use Rattle.mp_model.specs.EventCore.Event.{close}
 use Rattle.mp_model.specs.Network.{entry}
+use Rattle.mp_model.specs.Arrivals.{arrivals_of}
 use Rattle.mp_model.specs.Run.{greatest_stages}
-use Rattle.mp_step.specs.Standing.{closed as closed_standing}
+use Rattle.mp_model.specs.Step.{State, step}
+use Rattle.mp_step.specs.Standing.{Stands, closed as closed_standing}
 use Rattle.mp_round.specs.RoundView.{IsRoundOn, RoundView, core_of}
+use Rattle.mp_round.specs.Advancing.{Advances}
 use Rattle.mp_round.specs.Showing.{shown_of}
 use Rattle.mp_round.proofs.Placing.{shown_by}
 use Rattle.mp_round.proofs.Quiet.{ClosesAtOnce, closes_at_once}
@@ -31,3 +34,14 @@ pub returns-clause-answer : goal.returns-clause-answer
 returns-clause-answer c = λ e.
     let net = c.args.net.now in
     subst (λ (round : RoundView). closed ≡ (apply net (core_after net (core_of round) (all_lacking net (core_of round))) (close c.args.arrivals.now)).0) c.self.view_is (at_once c).answer
+
+pub returns-clause-advances : goal.returns-clause-advances
+returns-clause-advances c = λ e.
+    let net = c.args.net.now in
+    let s = c.self.inside in
+    subst (λ (round : RoundView). Advances net round.standing c.close_queued.new.self c.choose_all.new.into.items c.args.arrivals.now) c.self.view_is
+    (record {
+      taken = c.in-Ok.ensures.taken;
+      step = subst (λ (ss : List ℕ). (state : State) → Stands net s.state state → Stands net c.close_queued.new.self (step net ss (arrivals_of net c.args.arrivals.now) state)) c.deref.ensures.0 c.in-Ok.ensures.step;
+      period = c.in-Ok.ensures.period;
+    })
