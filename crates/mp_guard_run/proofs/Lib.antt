@@ -4,3 +4,4 @@ pub mod Bests
 pub mod Orders
 pub mod Places
 pub mod Settled
+pub mod Steps

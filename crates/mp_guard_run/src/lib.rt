@@ -8,7 +8,9 @@ mod numbers;
 mod owed;
 mod owing;
 mod pressing;
+mod session;
 #[cfg(test)]
 mod tests;
 
 pub use crate::owed::Owed;
+pub use crate::session::GuardSession;
