@@ -1,3 +1,4 @@
 pub mod Running
 pub mod Plans
 pub mod Chains
+pub mod Controls

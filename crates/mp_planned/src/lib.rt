@@ -2,6 +2,7 @@
 #![tactic(auto)]
 
 ghost use Rattle.mp_planned.specs.Bounds.{OneListLaw, SettledLaw};
+ghost use Rattle.mp_planned.specs.Controls.{NotPlannedBoundOneLower};
 ghost use Rattle.mp_planned.specs.Plans.{PlanServesLaw, PlannedBoundLaw, PlannedCase};
 
 /// In any row of periods the greens of a plan serve the rate of each movement in all but one period
@@ -29,4 +30,9 @@ pub fn settled_law()
 /// Two approaches with start queues meet the premises.
 pub fn planned_case()
     ensures { PlannedCase }
+{}
+
+/// Not each queue stays below its bound: on two approaches one reaches it.
+pub fn planned_bound_one_lower_control()
+    ensures { NotPlannedBoundOneLower }
 {}
