@@ -31,6 +31,14 @@ CERTIFIED = ["corridor 3", "corridor 16", "corridor 17", "grid 8", "blocks 6", "
 SCALED = ["corridor 32", "grid 8", "blocks 8", "city 4", "city 5", "largest 0"]
 # What is overloaded, where its rates are so many times as high.
 OVERLOADED = [("corridor 3", 5), ("largest 0", 50)]
+# What is run by frames and by a plan, and with which number.
+REGULAR = [("frames", "corridor 3", "3", 100_000, 10_000), ("plan", "corridor 3", "40", 100_000, 10_000)]
+# What is run under a guard, with its cycle, lost periods and denominator.
+GUARDED = [
+    ("corridor 3", ("20", "1", "1000"), 100_000, 10_000),
+    ("largest 0", ("60", "0", "1000"), 10_000, 1_000),
+    ("ring 40", ("20", "0", "1000"), 20_000, 2_000),
+]
 
 
 def made(network, periods=None):
@@ -162,6 +170,60 @@ def controls(program, times, is_quick):
         print(f"| {network} | {count} | {(spent - start) / count * 1e6:.2f} | {answered / count * 1e6:.2f} |", flush=True)
 
 
+def knows(program, word, *files):
+    """Whether the program has a command."""
+    ended = subprocess.run([program, word, *files], stdin=subprocess.DEVNULL, stdout=subprocess.DEVNULL, stderr=subprocess.PIPE)
+    return (ended.returncode, ended.stderr) != (1, b"words\n")
+
+
+def free(program, network):
+    """The words of a run by pressure alone: under a certificate of `scale` where 128 bits don't hold the greatest slack."""
+    if not overflow([program, "certify", made(network)]):
+        return [program, "run", made(network)]
+    certificate = OUT / f"{network.replace(' ', '-')}.cert"
+    run([program, "scale", made(network), "1000"], to=certificate)
+    return [program, "runwith", made(network), certificate]
+
+
+def beside(program, words, network, count, times):
+    """What a period takes under these words and in a run by pressure alone, and the most memory of the first."""
+    stream, other = made(network, count), free(program, network)
+    start, spent, other_start, other_spent = least(times, (words,), (words, stream), (other,), (other, stream))
+    ours, others = ((to - at) / count * 1e6 for at, to in ((start, spent), (other_start, other_spent)))
+    return f"{count} | {1000 * spent:.0f} | {ours:.2f} | {others:.2f} | {peak(words, stream)}"
+
+
+def once(words, times):
+    return f"- | {1000 * least(times, (words,))[0]:.1f} | - | - | {peak(words, os.devnull)}"
+
+
+def regulated(program, times, is_quick):
+    print("\n| by | network | periods | ms | a period, µs | by pressure alone, µs | peak, MB |\n|---|---|---:|---:|---:|---:|---:|")
+    row = lambda name, network, cells: print(f"| {name} | {network} | {cells} |", flush=True)
+    unknown = set()
+    for word, network, number, *periods in REGULAR:
+        words = [program, word, made(network), number]
+        if knows(*words):
+            row(f"{word} {number}", network, beside(program, words, network, periods[is_quick], times))
+        else:
+            unknown.add(word)
+    for network, asked, *periods in GUARDED:
+        words, file = [program, "guard", made(network), *asked], OUT / f"{network.replace(' ', '-')}.guard"
+        if not knows(*words):
+            unknown.add("guard")
+            continue
+        row(f"guard {' '.join(asked)}", network, once(words, times))
+        run(words, to=file)
+        words = [program, "runguard", made(network), file]
+        if knows(*words):
+            row("runguard, no periods", network, once(words, times))
+            row("runguard", network, beside(program, words, network, periods[is_quick], times))
+        else:
+            unknown.add("runguard")
+    if unknown:
+        print(f"\nLeft out, since the program doesn't know them: {', '.join(sorted(unknown))}.")
+
+
 if __name__ == "__main__":
     program, *words = sys.argv[1:]
     if words not in ([], ["--quick"]):
@@ -172,3 +234,4 @@ if __name__ == "__main__":
     runs(program, times, bool(words))
     commands(program, times, bool(words))
     controls(program, times, bool(words))
+    regulated(program, times, bool(words))

@@ -10,6 +10,7 @@ KIND and SIZE:
   grid N        N by N junctions of one-way roads, all east or south, two stages
   blocks N      the same with roads that lead there and back in turn, so that traffic circles round the blocks
   city N        N by N junctions of roads both ways, fed round the edge, four stages
+  ring N        N links in a ring, of which one vehicle in a thousand leaves at each, with a stage of its own
   largest 0     the limits of a network file: 128 links, 512 movements, 64 junctions of 16 stages of 8 movements
 
 Streams are drawn with a fixed seed: stretches at the rate and stretches of bursts, cut to what the buckets accept.
@@ -106,6 +107,13 @@ def city(n):
     return Network(100, 40, roads, movements, junctions)
 
 
+def ring(n):
+    names = [f"r{i}" for i in range(1, n + 1)]
+    movements = [[Movement(it + "n", it, then, 999, 1000), Movement(it + "x", it, "out", 1, 1000)] for it, then in zip(names, names[1:] + names[:1])]
+    roads = [Link(names[0], 1, 1), *map(Link, names[1:])]
+    return Network(1000, 1, roads, sum(movements, []), [[[it.name for it in own]] for own in movements])
+
+
 def largest(_):
     # Four layers of 32 links. A link leads to three of the next layer and out, and two links meet at a junction.
     roads = [Link(f"l{i}", 30, 1800 + 60 * (i % 7)) for i in range(128)]
@@ -147,7 +155,7 @@ def stream(network, periods):
         yield ",".join(map(str, counts)) + "\n"
 
 
-KINDS = {it.__name__: it for it in (links, corridor, grid, blocks, city, largest)}
+KINDS = {it.__name__: it for it in (links, corridor, grid, blocks, city, ring, largest)}
 
 if __name__ == "__main__":
     if len(sys.argv) not in (3, 4) or sys.argv[1] not in KINDS:
