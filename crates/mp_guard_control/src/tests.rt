@@ -1,3 +1,5 @@
+ghost use Rattle.mp_model.specs.Guard.{Guards};
+
 use crate::control_guarded;
 use mp_control::ControlEnd;
 use mp_edge::{MemSink, MemSource};
@@ -61,8 +63,9 @@ fn approaches(rt: &impl Abort, alloc: Global) -> Result<Net, Fail> {
 }
 
 // The header under the guard.
-fn header(rt: &impl Abort, alloc: Global, net: &Net, guard: &Guard) -> Vec<u8> {
-    assert!(rt; check(net, guard).is_ok());
+fn header(rt: &impl Abort, alloc: Global, net: &Net, guard: &Guard) -> Vec<u8>
+    requires guards { Guards net.now guard.now }
+{
     let surpluses = surpluses(alloc, net).expect(rt, "there is memory");
     let bursts = bursts(alloc, net, guard, &surpluses).expect(rt, "the bursts come to rest");
     let bounds = bounds(alloc, net, guard, &surpluses, &bursts).expect(rt, "there is memory");
@@ -76,19 +79,26 @@ fn header(rt: &impl Abort, alloc: Global, net: &Net, guard: &Guard) -> Vec<u8> {
     text
 }
 
-// What the controller writes in answer to lines of counts, under the guard of this text.
+// What the controller writes in answer to lines of counts, under the guard.
+fn answers(rt: &impl Abort, alloc: Global, net: &Net, guard: &Guard) -> MemSink
+    requires guards { Guards net.now guard.now }
+{
+    let header = header(rt, alloc, net, guard);
+    let mut owed = Owed::new(alloc, net, guard).expect(rt, "there is memory");
+    let lines = b"3,0\n0,3\n1,2\n# x\n0,0\n5,5\n5,5\n5,5\n";
+    let mut input = MemSource::new(alloc, lines, 3, &[]).expect(rt, "there is memory");
+    let mut out = MemSink::new(alloc, 4096, &[]).expect(rt, "there is memory");
+    let end = control_guarded(net, guard, &header, &mut owed, &mut input, &mut out);
+    assert!(rt; end == ControlEnd::Done);
+    out
+}
+
+// So it is under the guard of this text.
 fn written(rt: &impl Abort, alloc: Global, text: &[u8]) -> Result<MemSink, Fail> {
     let net = approaches(rt, alloc)?;
     let guard = read_guard(alloc, &net, text).expect(rt, "the text is one of a guard");
     assert!(rt; check(&net, &guard).is_ok());
-    let header = header(rt, alloc, &net, &guard);
-    let mut owed = Owed::new(alloc, &net, &guard).expect(rt, "there is memory");
-    let lines = b"3,0\n0,3\n1,2\n# x\n0,0\n5,5\n5,5\n5,5\n";
-    let mut input = MemSource::new(alloc, lines, 3, &[]).expect(rt, "there is memory");
-    let mut out = MemSink::new(alloc, 4096, &[]).expect(rt, "there is memory");
-    let end = control_guarded(&net, &guard, &header, &mut owed, &mut input, &mut out);
-    assert!(rt; end == ControlEnd::Done);
-    Ok(out)
+    Ok(answers(rt, alloc, &net, &guard))
 }
 
 #[test]
