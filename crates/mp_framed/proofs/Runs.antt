@@ -19,22 +19,8 @@ use Rattle.mp_model.specs.Step.{queue}
 use Rattle.mp_framed.proofs.Drift.{frame_kept, frame_queues}
 use Rattle.mp_framed.proofs.Parts.{next_part}
 use Rattle.mp_framed.proofs.Stretches.{no_stretch}
+use Rattle.mp_framed.specs.Accounts.{InFrame, Keeps}
 use Rattle.mp_framed.specs.Frames.{FrameBoundLaw, IsPart}
-
--- m periods of a frame have passed, at whose beginning the drift value was at most its greatest
-record InFrame (net : Network) (F E D : ℕ) (frame : FramedState) (level : ℕ → ℕ) (m : ℕ) : Type 0 where
-  pass : ℕ → ℕ
-  arrivals : ℕ → ℕ
-  phase : ℕ → ℕ
-  first_level : ℕ → ℕ
-  part : IsPart net frame.stages m pass arrivals (entry frame.first) phase first_level (queue frame.state) (phase_of net frame.state) level
-  within : IsWithin net first_level
-  top : drift_value net (entry frame.first) phase first_level ≤ greatest_frame_drift net F E D
-
--- between two periods either the next frame begins, or the periods of this one so far have passed
-record Keeps (net : Network) (F E D : ℕ) (now : FramedState) (level : ℕ → ℕ) : Type 0 where
-  fresh : begins F now ≡ true → drift_value net (queue now.state) (phase_of net now.state) level ≤ greatest_frame_drift net F E D
-  inside : begins F now ≡ false → InFrame net F E D now level (now.state.period % F)
 
 -- the period after a number, within a frame and at its end
 next_rest : (F p : ℕ) → 2 ≤ F → ((p + 1) % F == 0) ≡ false → (p + 1) % F ≡ p % F + 1
@@ -62,10 +48,10 @@ last_rest F p two e =
     (cases_lt (p % F + 1) F)
 
 -- the framed state of a frame that begins
-abbrev fresh : Network → FramedState → FramedState
+abbrev pub fresh : Network → FramedState → FramedState
 fresh net now = record { state = now.state; first = now.state.queues; stages = greatest_stages net (queue now.state); before = now.stages }
 
-same_state : (net : Network) (F : ℕ) (now : FramedState) → (in_frame net F now).state ≡ now.state
+pub same_state : (net : Network) (F : ℕ) (now : FramedState) → (in_frame net F now).state ≡ now.state
 same_state net F now = at (begins F now)
   where
     at : (b : Bool) → (cond b (fresh net now) now).state ≡ now.state
@@ -74,7 +60,7 @@ same_state net F now = at (begins F now)
 
 module _ (net : Network) (ok : IsNetwork net) (F : ℕ) (two : 2 ≤ F) (cert : Cert) (certified : Certifies (frame_network net F) cert) (E D : ℕ) (slack : IsSlack cert E D) where
   -- at the beginning of a period its frame has begun
-  begun : (now : FramedState) (level : ℕ → ℕ) → IsWithin net level → Keeps net F E D now level → InFrame net F E D (in_frame net F now) level (now.state.period % F)
+  pub begun : (now : FramedState) (level : ℕ → ℕ) → IsWithin net level → Keeps net F E D now level → InFrame net F E D (in_frame net F now) level (now.state.period % F)
   begun now level within keeps = at (begins F now) refl
     where
       first : begins F now ≡ true → InFrame net F E D (fresh net now) level 0
@@ -100,7 +86,7 @@ module _ (net : Network) (ok : IsNetwork net) (F : ℕ) (two : 2 ≤ F) (cert : 
       at false e = keeps.inside e
 
   -- after the period the next frame begins with the drift value kept, or the frame goes on
-  kept : (counts : List ℕ) (frame : FramedState) (level : ℕ → ℕ) → IsWithin net level → InFrame net F E D frame level (frame.state.period % F) →
+  pub kept : (counts : List ℕ) (frame : FramedState) (level : ℕ → ℕ) → IsWithin net level → InFrame net F E D frame level (frame.state.period % F) →
       Keeps net F E D (framed_step net F counts frame) (λ l. next_level net.per (link_at net l).rate (level l) (arrivals_of net counts l))
   kept counts frame level within f =
       let next = framed_step net F counts frame in
@@ -128,10 +114,10 @@ module _ (net : Network) (ok : IsNetwork net) (F : ℕ) (two : 2 ≤ F) (cert : 
       }
 
   module _ (bounds : List ℕ) (are : AreFrameBounds net F E D bounds) where
-    abbrev Bounded : FramedState → Type 0
+    abbrev pub Bounded : FramedState → Type 0
     Bounded now = AllByRecursion (λ k. queue now.state k ≤ entry bounds k) (movement_numbers net)
 
-    bounded_at : (now : FramedState) (level : ℕ → ℕ) → IsWithin net level → Keeps net F E D now level → Bounded now
+    pub bounded_at : (now : FramedState) (level : ℕ → ℕ) → IsWithin net level → Keeps net F E D now level → Bounded now
     bounded_at now level within keeps =
         let frame = in_frame net F now in
         let f = begun now level within keeps in
@@ -152,7 +138,7 @@ module _ (net : Network) (ok : IsNetwork net) (F : ℕ) (two : 2 ≤ F) (cert : 
         )
 
 -- at the opening a frame begins
-opens : (net : Network) → IsNetwork net → (F E D : ℕ) → Keeps net F E D (framed_opening net) (λ l. 0)
+pub opens : (net : Network) → IsNetwork net → (F E D : ℕ) → Keeps net F E D (framed_opening net) (λ l. 0)
 opens net ok F E D = record {
   fresh = λ e. omega (arith, opening_drift net ok);
   inside = λ e. absurd (true≢false (sym (eq-eqb (0 % F) 0 (zero-mod F)) ∙ e));

@@ -1,3 +1,4 @@
 pub mod Frames
+pub mod Accounts
 pub mod Cases
 pub mod Controls
