@@ -5,3 +5,4 @@ pub mod Courses
 pub mod Lines
 pub mod Bounds
 pub mod Openings
+pub mod Accounts

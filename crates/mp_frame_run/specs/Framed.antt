@@ -1,9 +1,9 @@
 -- What a session by frames keeps: a network with a certified frame network, its bounds, and a framed run.
-use Rattle.std.specs.Prelude.{◌≡◌, ◌≤◌, ℕ, ℤ, List, Err}
+use Rattle.std.specs.Prelude.{◌≡◌, ◌≤◌, ◌-◌, ℕ, ℤ, pos, List, Err, slice_index_or, unsigned_abs}
 use Rattle.std.specs.List.{AllByRecursion}
 use Rattle.mp_model.specs.Certificate.{Cert, Certifies}
-use Rattle.mp_model.specs.Frames.{frame_network, framed_run}
-use Rattle.mp_model.specs.Network.{Network, entry, movement_numbers}
+use Rattle.mp_model.specs.Frames.{FramedState, frame_network, framed_run}
+use Rattle.mp_model.specs.Network.{Network, entry, link_numbers, movement_numbers}
 use Rattle.mp_model.specs.NetworkRules.{IsAcceptable}
 use Rattle.mp_model.specs.Slack.{IsSlack}
 use Rattle.mp_model.specs.Step.{queue}
@@ -14,8 +14,9 @@ use Rattle.mp_num.specs.Fraction.{Fraction, numerator, denominator}
 use Rattle.mp_drift.specs.Session.{IsAccepted, IsCertified}
 use Rattle.mp_cert.specs.Checking.{check_outcome}
 use Rattle.mp_step.specs.Standing.{Standing, IsOn}
+use Rattle.mp_framed.specs.Accounts.{Keeps}
 use Rattle.mp_frame.specs.FrameBounds.{HoldsFrameBounds, HasNoFrameRoom, PassesFrameBound}
-use Rattle.mp_frame_run.specs.FrameNow.{FrameNow}
+use Rattle.mp_frame_run.specs.FrameNow.{FrameNow, StandsFramed}
 use Rattle.mp_frame_run.specs.declared.session.FrameOpen.{FrameOpen}
 use Rattle.mp_frame_run.specs.declared.session.FrameOpen.TheVariants.{Cert as RefusesCert, Bound, Room, NoMemory}
 
@@ -28,13 +29,26 @@ pub record Framed : Type 0 where
   pub at : Standing
   pub frame : FrameNow
 
--- A frame has 2 to 60 periods, some certificate with the slack certifies the frame network, the bounds are those of frames under the slack, and the run stands on the network.
+-- A session has an account of its frame: it stands at a framed state with these bucket levels, and there either the next period begins a frame, and the drift value is at most its greatest, or the periods of this frame so far have passed.
+pub record IsAccounted (s : Framed) : Type 0 where
+  pub now : FramedState
+  pub level : ℕ → ℕ
+  pub stands : StandsFramed s.net s.periods s.at s.frame now
+  pub levels : AllByRecursion (λ l. entry s.at.levels l ≡ level l) (link_numbers s.net)
+  pub keeps : Keeps s.net s.periods (numerator s.slack) (denominator s.slack) now level
+
+-- A frame has 2 to 60 periods, some certificate with the slack certifies the frame network, the bounds are those of frames under the slack, the run stands on the network, and it has an account of its frame.
 pub record IsFramed (s : Framed) : Type 0 where
   pub acceptable : IsAcceptable s.net
   pub periods : (2 ≤ s.periods) × (s.periods ≤ 60)
   pub certified : IsCertified (frame_network s.net s.periods) (numerator s.slack) (denominator s.slack)
   pub bounds : HoldsFrameBounds s.net s.periods (numerator s.slack) (denominator s.slack) s.bounds
   pub on : IsOn s.net s.at
+  pub account : IsAccounted s
+
+-- Each queue is at most its bound.
+abbrev pub HasLowQueues : Framed → Type 0
+HasLowQueues s = AllByRecursion (λ k. entry s.at.queues k ≤ unsigned_abs (slice_index_or s.bounds (k - 1) (pos 0))) (movement_numbers s.net)
 
 -- The check accepts the certificate of the frame network, and the bounds of frames under its slack exceed 128 bits, or one has no room.
 pub record IsUnbounded (net : Network) (F : ℕ) (cert : Cert) (IsSo : Network → ℕ → ℕ → ℕ → Type 0) : Type 0 where

@@ -2,10 +2,12 @@
 ghost use Rattle.std.specs.Prelude.{◌≡◌, ◌≤◌, ◌<◌, ◌+◌, ◌^◌, ◌++◌, ◌∷◌, [], ℕ, List, All, IfErr, IfOk, OnErr, OnOk, true, false, map};
 ghost use Rattle.mp_model.specs.Arrivals.{HasCounts};
 ghost use Rattle.mp_model.specs.Frames.{FramedState, framed_advance, framed_opening};
+ghost use Rattle.mp_model.specs.Network.{entry, link_numbers};
 ghost use Rattle.mp_model.specs.Run.{opening};
 ghost use Rattle.mp_model.specs.Step.{AreStages};
 ghost use Rattle.mp_model.specs.declared.limits.TheConstants.{MOST_LINES};
 ghost use Rattle.mp_laws.specs.Buckets.{IsFirstAbove};
+ghost use Rattle.mp_step.specs.BucketLevels.{level_then};
 ghost use Rattle.mp_step.specs.Standing.{IsOn, Stands};
 ghost use Rattle.mp_step.specs.Taken.{HasTaken};
 ghost use Rattle.mp_frame_run.specs.FrameNow.{begins_at, StandsFramed};
@@ -74,6 +76,7 @@ fn first_period(
     ensures taken { OnOk result ((A : List (List ℕ)) → HasTaken net.now state.old A → HasTaken net.now state.new (A ++ arrivals.now ∷ [])) }
     ensures step { OnOk result ((now : FramedState) → StandsFramed net.now f state.old (shown frame.old) now → StandsFramed net.now f state.new (shown frame.new) (framed_advance net.now f arrivals.now now)) }
     ensures period { OnOk result (state.new.period ≡ state.old.period + 1) }
+    ensures levels { OnOk result (state.new.levels ≡ map (level_then net.now (entry state.old.levels) arrivals.now) (link_numbers net.now)) }
     ensures stages { OnOk result (AreStages net.now.junctions frame.new.stages.items) }
     ensures on { IsOn net.now state.new }
     ensures set { IsSet net.now f state.new frame.new }
@@ -111,6 +114,7 @@ fn next_period(
     ensures taken { OnOk result ((A : List (List ℕ)) → HasTaken net.now state.old A → HasTaken net.now state.new (A ++ arrivals.now ∷ [])) }
     ensures step { OnOk result ((now : FramedState) → StandsFramed net.now f state.old (shown frame.old) now → StandsFramed net.now f state.new (shown frame.new) (framed_advance net.now f arrivals.now now)) }
     ensures period { OnOk result (state.new.period ≡ state.old.period + 1) }
+    ensures levels { OnOk result (state.new.levels ≡ map (level_then net.now (entry state.old.levels) arrivals.now) (link_numbers net.now)) }
     ensures stages { OnOk result (AreStages net.now.junctions frame.new.stages.items) }
     ensures on { IsOn net.now state.new }
     ensures set { IsSet net.now f state.new frame.new }
@@ -147,6 +151,7 @@ pub fn frame_period(
     ensures taken { OnOk result ((A : List (List ℕ)) → HasTaken net.now state.old A → HasTaken net.now state.new (A ++ arrivals.now ∷ [])) }
     ensures step { OnOk result ((now : FramedState) → StandsFramed net.now f state.old (shown frame.old) now → StandsFramed net.now f state.new (shown frame.new) (framed_advance net.now f arrivals.now now)) }
     ensures period { OnOk result (state.new.period ≡ state.old.period + 1) }
+    ensures levels { OnOk result (state.new.levels ≡ map (level_then net.now (entry state.old.levels) arrivals.now) (link_numbers net.now)) }
     ensures stages { OnOk result (AreStages net.now.junctions frame.new.stages.items) }
     ensures on { IsOn net.now state.new }
     ensures set { IsSet net.now f state.new frame.new }

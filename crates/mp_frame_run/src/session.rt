@@ -1,5 +1,5 @@
 //! A run by frames whose queues stay within their bounds.
-ghost use Rattle.std.specs.Prelude.{◌≡◌, ◌≤◌, ◌<◌, ◌+◌, ◌-◌, ◌^◌, ◌++◌, ◌∷◌, [], ℕ, List, All, IfOk, IfErr, OnOk, OnErr, length, slice_index_or, pos};
+ghost use Rattle.std.specs.Prelude.{◌≡◌, ◌≤◌, ◌<◌, ◌+◌, ◌-◌, ◌^◌, ◌++◌, ◌∷◌, [], ℕ, List, All, IfOk, IfErr, OnOk, OnErr, length, slice_index_or, pos, unsigned_abs};
 ghost use Rattle.mp_model.specs.Arrivals.{HasCounts};
 ghost use Rattle.mp_model.specs.Certificate.{HasLengths, Certifies};
 ghost use Rattle.mp_model.specs.Frames.{FramedState, frame_network, framed_advance};
@@ -14,7 +14,7 @@ ghost use Rattle.mp_drift.specs.Session.{IsAccepted};
 ghost use Rattle.mp_step.specs.Taken.{HasTaken};
 ghost use Rattle.mp_frame.specs.FrameBounds.{FindsFrameGreatest, HoldsFrameBounds};
 ghost use Rattle.mp_frame_run.specs.FrameNow.{StandsFramed};
-ghost use Rattle.mp_frame_run.specs.Framed.{IsFramed, IsRefused, open_fault};
+ghost use Rattle.mp_frame_run.specs.Framed.{HasLowQueues, IsFramed, IsRefused, open_fault};
 ghost use Rattle.mp_frame_run.specs.Running.{IsAtOpening};
 
 use crate::choosing::stage_of;
@@ -64,8 +64,9 @@ fn open_fault(fault: CalcFault) -> FrameOpen
 /// A run by frames on a network with a checked certificate of its frame network.
 ///
 /// At the beginning of each frame the junctions take their stages of greatest pressure for all its
-/// periods, and a junction that changes its stage loses the first of them. The bounds are those of
-/// the drift theorem (Tassiulas and Ephremides 1992) over frames, for the slack of the frame network.
+/// periods, and a junction that changes its stage loses the first of them. Its type keeps the drift
+/// theorem (Tassiulas and Ephremides 1992) over frames: at the beginning of each the drift value is at
+/// most its greatest, and so each queue is at most its bound, within frames too.
 #[derive(Drop)]
 pub struct FrameSession<'a> {
     net: &'a Net,
@@ -169,7 +170,8 @@ impl<'a> FrameSession<'a> {
     /// The most vehicles that the movement ever has queued.
     pub fn bound(&self, k: MovementNo) -> i128
         requires { (1 ≤ k) × (k ≤ length self.now.net.movements) }
-        ensures { result ≡ slice_index_or self.now.bounds (k - 1) (pos 0) }
+        ensures value { result ≡ slice_index_or self.now.bounds (k - 1) (pos 0) }
+        ensures holds { entry self.now.at.queues k ≤ unsigned_abs result }
     {
         bound_at(self.bound.as_slice(), k)
     }
@@ -178,6 +180,7 @@ impl<'a> FrameSession<'a> {
     pub fn state(&self) -> &State
         ensures value { result.now ≡ self.now.at }
         ensures framed { IsFramed self.now }
+        ensures bounded { HasLowQueues self.now }
     {
         &self.state
     }

@@ -7,6 +7,7 @@ use Rattle.mp_num.specs.Fraction.{numerator, denominator}
 use Rattle.mp_drift.proofs.Opening.{slack_above}
 use Rattle.mp_drift.specs.Session.{IsAccepted}
 use Rattle.mp_frame_run.specs.Framed.{IsRefused}
+use Rattle.mp_frame_run.proofs.Accounts.{accounted_at_opening}
 use Rattle.mp_frame_run.proofs.Openings.{bounds_refused}
 use Rattle.mp_frame_run.proofs.session.FrameSession.open.Goals as goal
 
@@ -37,6 +38,7 @@ invariant_of-result c =
         certified = (cert, subst (λ (n : Network). Certifies n cert) c.requires.framed certifies, slack);
         bounds = c.in-Ok.ensures.bounds;
         on = c.in-Ok-empty.ensures.on;
+        account = accounted_at_opening _ c.shares.ensures.acceptable.network (c.in-Ok-no_frame.ensures.opening c.args.f) c.in-Ok-empty.ensures.taken;
       };
       set = c.in-Ok-no_frame.ensures.set c.args.f;
     }
