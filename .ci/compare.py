@@ -5,7 +5,8 @@ that the program finds against hostile choices, wrong counts and greedy arrivals
 usage: compare.py PROGRAM [NETWORKS [FIRST]]
 
 There are 1000 networks of each part where no number is given. Each has a number of its own from which it is drawn, so
-`compare.py PROGRAM 1 17` tries network 17 again, and prints its file. Commands that the program doesn't know are skipped.
+`compare.py PROGRAM 1 17` tries network 17 again, and prints its file; an attack that succeeds prints its network and its
+guard. Commands that the program doesn't know are skipped.
 """
 import collections
 import os
@@ -388,7 +389,7 @@ def attacks(program, numbers, tally):
             wrong, has = attack(net, one, *limits, draw)
             reached |= has
             if wrong:
-                yield f"hostile network {number}: {wrong}"
+                yield f"hostile network {number}: {wrong}\n{net.text()}{text_of(one.lines())}"
                 break
         tally["reached"] += reached
 
