@@ -28,10 +28,10 @@ use Rattle.mp_trial.specs.Search.{scaled, Found}
 use Rattle.mp_cli.specs.declared.outcome.FileRole.TheVariants as file
 use Rattle.mp_cli.specs.declared.outcome.TextKind.{TextKind}
 use Rattle.mp_cli.specs.declared.outcome.Outcome.{Outcome}
-use Rattle.mp_cli.specs.declared.outcome.Outcome.TheVariants.{Done, Store, Network as BadNetwork, LongText, Text, Admitted, Critical, Overloaded, Certificate, ZeroVector, WeakVector, NoCertificate, Overflow, GrowthOverflow, PivotLimit, SweepLimit, Uneven, LongFrames, FastFrames, CyclicPlan, FullPlan, PlanOverflow, NoGuard, FullGuard, BurstLimit, Differs, Read, Write, NoMemory}
+use Rattle.mp_cli.specs.declared.outcome.Outcome.TheVariants.{Done, Store, Network as BadNetwork, LongText, Text, Admitted, Critical, Overloaded, Certificate, BrokenGuard, ZeroVector, WeakVector, NoCertificate, Overflow, GrowthOverflow, PivotLimit, SweepLimit, Uneven, LongFrames, FastFrames, CyclicPlan, FullPlan, PlanOverflow, NoGuard, FullGuard, BurstLimit, Differs, Read, Write, NoMemory}
 use Rattle.mp_cli.specs.Auditing.{audit_line, Compares}
 use Rattle.mp_cli.specs.Checking.{RefusesCert}
-use Rattle.mp_cli.specs.Commands.{Command, Run, RunWith, Show, Certify, Check, Refute, Audit, AuditWith, Control, Demo, Scale, Overload, Frames, Plan, Guard, Unknown}
+use Rattle.mp_cli.specs.Commands.{Command, Run, RunWith, Show, Certify, Check, Refute, Audit, AuditWith, Control, Demo, Scale, Overload, Frames, Plan, Guard, ControlGuard, Unknown}
 use Rattle.mp_cli.specs.Complete.{IsGoodFile, IsGoodText, IsGoodStream, IsExcessiveStream, IsGoodLog, IsRunnableCert, IsGoodVector, IsAdmittable, IsGrowing, IsRunnableFramesCert, IsPlannable, IsGuardable, CanRun, IsGood, IsExcessive}
 use Rattle.mp_cli.specs.Ends.{Means}
 use Rattle.mp_cli.specs.Opening.{Reads, RefusesNetwork, RefusesText}
@@ -42,6 +42,10 @@ use Rattle.mp_cli.specs.Planning.{IsUnplanned}
 use Rattle.mp_cli.specs.Scaling.{IsUnscaled}
 use Rattle.mp_cli.specs.Overloading.{IsNotOverloaded, OfOverloaded, IsUntold}
 use Rattle.mp_cli.specs.Guarding.{IsUnguarded, HasNoBursts, OfFound}
+use Rattle.mp_cli.specs.GuardControlling.{IsBrokenGuard}
+use Rattle.mp_guard.proofs.CheckLemmas.{accepts}
+use Rattle.mp_guard.specs.GuardText.{guard_meaning}
+use Rattle.mp_cli.proofs.GuardControlLemmas.{good_guarded}
 use Rattle.mp_cli.proofs.GrowthLemmas.{told_weighed}
 use Rattle.mp_cli.specs.Sessions.{IsUnopened, IsUnaccepted}
 use Rattle.mp_cli.specs.Statuses.{status_of}
@@ -220,6 +224,11 @@ plan_memory PlanOverflow net C good refused = absurd (good.found refused)
 plan_memory NoMemory net C good refused = refl
 plan_memory outcome net C good refused = absurd refused
 
+-- a guard that keeps all rules and whose bursts come to rest is not refused
+broken_memory : (outcome : Outcome) (net : Network) (guard : model.Guard) → model.Guards net guard → IsBrokenGuard outcome net guard → status_of outcome ≡ 12
+broken_memory (BrokenGuard rule) net guard good refused = absurd (let no = (accepts net guard good.lengths (Err rule) refused).1 good in cc)
+broken_memory outcome net guard good refused = absurd refused
+
 -- what runs by frames and by plans tell of the stream alone
 frames_read : (net : Network) (F : ℕ) (head : List ℕ) (ports : Ports) (how : RunEnd) → EndsOn (framed_course net F) head how ports → ReadTo net how ports.input_before ports.input_after
 frames_read net F head ports how ends = arrivals_read net (framed_lines_from net F (framed_opening net)) (λ A. end_line net (framed_after net F (framed_opening net) A).state) head ports how ends
@@ -327,6 +336,13 @@ completes (Guard net cycle lost d) outcome ports quiet good means =
     let on = of_good file_meaning ports.files net _ _ good reads in
     goes 0 outcome on.1 (finding_memory outcome good.value cycle lost d good.is) (λ found.
     goes 0 outcome (of_found good.value cycle lost d _ good.is found) (bursts_memory outcome good.value good.is.guard good.is.rest) (λ writes. written_done outcome ports _ quiet writes.1.answers.1)))
+completes (ControlGuard net guard) outcome ports quiet good means =
+    goes 0 outcome means (network_memory outcome ports.files net _ quiet good) (λ reads.
+    let on = of_good file_meaning ports.files net _ _ good reads in
+    let given = good.is.0.file in
+    goes 0 outcome on.1 (text_memory outcome _ (guard_meaning good.value) ports.files guard _ quiet good.is.0) (λ read.
+    goes 0 outcome (of_good (guard_meaning good.value) ports.files guard _ _ given read) (broken_memory outcome good.value given.value given.is.0) (λ kept.
+    goes 0 outcome kept.1 (bursts_memory outcome good.value given.value given.is.1) (λ controls. inl (good_guarded outcome good.value given.value ports _ quiet.read quiet.write good.is.1 controls.is)))))
 completes Unknown outcome ports quiet good means = absurd good
 
 pub exceeds : (command : Command) (outcome : Outcome) (ports : Ports) → IsQuiet outcome → IsExcessive command ports.files ports.input_before → Means command outcome ports → EndsIn 8 outcome

@@ -45,14 +45,14 @@ taken_at : (lines more : List InputLine) (line : InputLine) → AllByRecursion I
 taken_at [] more line all = all.0
 taken_at (l ∷ ls) more line all = taken_at ls more line all.1
 
-no_refusal : (net : Network) (line : InputLine) (n : ℕ) (left rest was now : Option (List ℕ)) → IsGoodInput net left → RefusedAt net line n left rest was now → IsTaken line
+pub no_refusal : (net : Network) (line : InputLine) (n : ℕ) (left rest was now : Option (List ℕ)) → IsGoodInput net left → RefusedAt net line n left rest was now → IsTaken line
 no_refusal net line n left rest was now good refused =
     let told : Tells (Some good.text) rest (λ text rest. (more : List InputLine) × StartsWith net text refused.lines (line ∷ more)) =
     subst (λ (l : Option (List ℕ)). Tells l rest (λ text rest. (more : List InputLine) × StartsWith net text refused.lines (line ∷ more))) good.told refused.read in
     let same : good.lines ≡ refused.lines ++ line ∷ told.2.0 = sym (append-nil good.lines) ∙ sym good.all.all ∙ told.2.1.all in
     taken_at refused.lines told.2.0 line (subst (λ ls. AllByRecursion IsTaken ls) same good.all.taken)
 
-not_too_many : (net : Network) (left rest was now : Option (List ℕ)) → IsGoodInput net left → HasTooMany net left rest was now → ⊥
+pub not_too_many : (net : Network) (left rest was now : Option (List ℕ)) → IsGoodInput net left → HasTooMany net left rest was now → ⊥
 not_too_many net left rest was now good many =
     let told : Tells (Some good.text) rest (λ text rest. (line : InputLine) × (more : List InputLine) × StartsWith net text many.lines (line ∷ more)) =
     subst (λ (l : Option (List ℕ)). Tells l rest (λ text rest. (line : InputLine) × (more : List InputLine) × StartsWith net text many.lines (line ∷ more))) good.told many.read in

@@ -19,13 +19,16 @@ use Rattle.mp_netfile.specs.Meaning.{file_meaning}
 use Rattle.mp_run.specs.declared.run.RunEnd.TheVariants as how
 use Rattle.mp_cli.specs.declared.outcome.Outcome.{Outcome}
 use Rattle.mp_cli.specs.declared.outcome.Outcome.TheVariants.{Done, Run as Ran}
-use Rattle.mp_cli.specs.Commands.{Command, Run, RunWith, Show, Certify, Check, Refute, Audit, AuditWith, Control, Demo, Scale, Overload, Frames, Plan, Guard, Unknown}
+use Rattle.mp_cli.specs.Commands.{Command, Run, RunWith, Show, Certify, Check, Refute, Audit, AuditWith, Control, Demo, Scale, Overload, Frames, Plan, Guard, ControlGuard, Unknown}
 use Rattle.mp_cli.specs.Auditing.{Compares}
 use Rattle.mp_cli.specs.Demonstrating.{IsShownRun}
 use Rattle.mp_cli.specs.Ends.{Means}
 use Rattle.mp_cli.specs.Framing.{FramesHoldGreatest, OpensFrames, StreamsFrames, WritesFramedLog}
 use Rattle.mp_cli.specs.Planning.{PlanHolds, StreamsPlan, WritesPlannedLog}
-use Rattle.mp_cli.specs.Headline.{Does, IsPeriod, EachPeriod, KeepsPromise, OfNetwork, WritesLog}
+use Rattle.mp_model.specs.Guard as model
+use Rattle.mp_guard.specs.GuardText.{guard_meaning}
+use Rattle.mp_cli.specs.GuardControlling.{ControlsUnder, GuardedOn}
+use Rattle.mp_cli.specs.Headline.{WritesGuarded, Does, IsPeriod, EachPeriod, KeepsPromise, OfNetwork, WritesLog}
 use Rattle.mp_cli.specs.Opening.{Reads, RefusesNetwork, OnNetwork}
 use Rattle.mp_cli.specs.Ports.{Ports, Files, IsUntouched}
 use Rattle.mp_cli.specs.Sessions.{HoldsWith, HoldsWithGreatest, Opens, OnSession, OnAnySession, AtGreatest, IsUnopened, IsUnaccepted}
@@ -93,6 +96,9 @@ plan_done net C ports holds = record {
       (plan_header net holds.plan) (planned_log net holds.plan) refl (λ A. refl) holds.is;
 }
 
+guarded_done : (net : Network) (guard : model.Guard) (ports : Ports) → ControlsUnder net guard (GuardedOn (Ran how.Done) net guard ports) → ControlsUnder net guard (WritesGuarded net guard ports)
+guarded_done net guard ports under = record { guards = under.guards; rest = under.rest; keeps = under.keeps; is = under.is }
+
 does_done : (command : Command) (ports : Ports) → Means command Done ports → Does command ports
 does_done (Run net) ports means = of_reads file_meaning ports.files net _ (λ n. HoldsWithGreatest n (WritesLog n ports)) (went means (λ no. no)) (λ n on. greatest_of Done n ports (λ num den bounds. ⊥) (WritesLog n ports) (λ cert no. no) (λ num den bounds no. absurd no) (went on.1 (λ no. no)))
 does_done (RunWith net cert) ports means =
@@ -117,6 +123,7 @@ does_done (Overload net) ports means = of_reads file_meaning ports.files net _ _
 does_done (Frames net F) ports means = absurd (went (went ((went ((went means (λ no. no)).is.1) (λ no. no)).1) (λ no. no)).is (λ no. no)).holds.is.1
 does_done (Plan net C) ports means = absurd (went ((went means (λ no. no)).is.1) (λ no. no)).is
 does_done (Guard net cycle lost d) ports means = of_reads file_meaning ports.files net _ _ (went means (λ no. no)) (λ n on. let found = went on.1 (λ no. no) in (found.guard, (went found.is (λ no. no)).1))
+does_done (ControlGuard net guard) ports means = absurd (went (went (went ((went means (λ no. no)).is.1) (λ no. no)).is (λ no. no)).1 (λ no. no)).is
 does_done Unknown ports means = absurd (let no = means.0 in cc)
 
 does_run : (command : Command) (ports : Ports) → Means command (Ran how.Done) ports → Does command ports
@@ -150,6 +157,9 @@ does_run (Frames net F) ports means =
     frames_done n F admitted.cert ports (went admitted.is (λ no. no)))
 does_run (Plan net C) ports means = of_reads file_meaning ports.files net _ (λ n. PlanHolds n C (WritesPlannedLog n ports)) (went means (λ no. no)) (λ n on. plan_done n C ports (went on.1 (λ no. no)))
 does_run (Guard net cycle lost d) ports means = absurd (went (went ((went means (λ no. no)).is.1) (λ no. no)).is (λ no. no)).1.answers.1
+does_run (ControlGuard net guard) ports means =
+    of_reads file_meaning ports.files net _ (λ n. Reads (guard_meaning n) ports.files guard (λ g. ControlsUnder n g (WritesGuarded n g ports))) (went means (λ no. no)) (λ n on.
+    of_reads (guard_meaning n) ports.files guard _ (λ g. ControlsUnder n g (WritesGuarded n g ports)) (went on.1 (λ no. no)) (λ g kept. guarded_done n g ports (went (went kept (λ no. no)).1 (λ no. no))))
 does_run Unknown ports means = absurd (let no = means.0 in cc)
 
 zero_outcome : (outcome : Outcome) → status_of outcome ≡ 0 → (outcome ≡ Done) ⊎ (outcome ≡ Ran how.Done)
@@ -208,4 +218,5 @@ promised (Overload net) outcome ports done means = promise_on outcome net ports 
 promised (Frames net F) outcome ports done means = promise_on outcome net ports _ (not_refused outcome ports.files net done) means
 promised (Plan net C) outcome ports done means = promise_on outcome net ports _ (not_refused outcome ports.files net done) means
 promised (Guard net cycle lost d) outcome ports done means = promise_on outcome net ports _ (not_refused outcome ports.files net done) means
+promised (ControlGuard net guard) outcome ports done means = promise_on outcome net ports _ (not_refused outcome ports.files net done) means
 promised Unknown outcome ports done means = absurd (let wrong = means.0 in omega (arith, ap status_of wrong))

@@ -5,6 +5,7 @@ pub mod VectorLemmas
 pub mod GrowthLemmas
 pub mod GuardLemmas
 pub mod ControlLemmas
+pub mod GuardControlLemmas
 pub mod StreamLemmas
 pub mod FrameLemmas
 pub mod PlanLemmas

@@ -22,6 +22,7 @@ use Rattle.mp_frame.specs.FrameNet.{frame_fault}
 use Rattle.mp_finder.specs.Finding.{finding, Guarded}
 use Rattle.mp_gen.specs.DemoNetwork.{demo_network}
 use Rattle.mp_guard.specs.Bursts.{ComeToRest}
+use Rattle.mp_guard.specs.GuardText.{guard_meaning}
 use Rattle.mp_netfile.specs.Meaning.{file_meaning}
 use Rattle.mp_num.specs.Fraction.{Fraction}
 use Rattle.mp_plan.specs.Made.{IsRefused}
@@ -32,7 +33,7 @@ use Rattle.mp_verdict.specs.Stated.{Reached}
 use Rattle.mp_verdict.specs.Verdict.{verdict, Admitted}
 use Rattle.mp_verdict.specs.Verdict as judged
 use Rattle.mp_overload.specs.Evens.{uneven_link}
-use Rattle.mp_cli.specs.Commands.{Command, Run, RunWith, Show, Certify, Check, Refute, Audit, AuditWith, Control, Demo, Scale, Overload, Frames, Plan, Guard, Unknown}
+use Rattle.mp_cli.specs.Commands.{Command, Run, RunWith, Show, Certify, Check, Refute, Audit, AuditWith, Control, Demo, Scale, Overload, Frames, Plan, Guard, ControlGuard, Unknown}
 use Rattle.mp_cli.specs.Overloading.{IsTold}
 use Rattle.mp_cli.specs.Ports.{Files}
 use Rattle.mp_cli.specs.Refuting.{IsFormed}
@@ -166,6 +167,7 @@ IsGood (Overload net) files left = IsGoodFile file_meaning files net IsGrowing
 IsGood (Frames net F) files left = CanRun (Frames net F) files (λ n. IsGoodStream n left)
 IsGood (Plan net C) files left = CanRun (Plan net C) files (λ n. IsGoodStream n left)
 IsGood (Guard net cycle lost d) files left = IsGoodFile file_meaning files net (λ n. IsGuardable n cycle lost d)
+IsGood (ControlGuard net guard) files left = IsGoodFile file_meaning files net (λ n. IsGoodText (guard_meaning n) files guard (λ g. model.Guards n g × ComeToRest n g) × IsGoodInput n left)
 IsGood Unknown files left = ⊥
 
 -- The files of a command are good, and the stream is above a bucket.

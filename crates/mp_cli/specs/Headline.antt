@@ -15,7 +15,7 @@ use Rattle.mp_netfile.specs.Meaning.{file_meaning}
 use Rattle.mp_control.specs.Controlling as control
 use Rattle.mp_run.specs.Running.{Finished}
 use Rattle.mp_cli.specs.declared.outcome.Outcome.TheVariants.{Done}
-use Rattle.mp_cli.specs.Commands.{Command, Run, RunWith, Show, Certify, Check, Refute, Audit, AuditWith, Control, Demo, Scale, Overload, Frames, Plan, Guard, Unknown}
+use Rattle.mp_cli.specs.Commands.{Command, Run, RunWith, Show, Certify, Check, Refute, Audit, AuditWith, Control, Demo, Scale, Overload, Frames, Plan, Guard, ControlGuard, Unknown}
 use Rattle.mp_cli.specs.Opening.{Reads}
 use Rattle.mp_cli.specs.Ports.{Ports}
 use Rattle.mp_cli.specs.Sessions.{HoldsWith, HoldsWithGreatest}
@@ -31,6 +31,10 @@ use Rattle.mp_cli.specs.Overloading.{WritesGrowth}
 use Rattle.mp_cli.specs.Framing.{FramesHoldGreatest, WritesFramedLog}
 use Rattle.mp_cli.specs.Planning.{PlanHolds, WritesPlannedLog}
 use Rattle.mp_cli.specs.Guarding.{WritesGuard}
+use Rattle.mp_cli.specs.GuardControlling.{ControlsUnder}
+use Rattle.mp_guard.specs.GuardText.{guard_meaning}
+use Rattle.mp_guard_control.specs.Accounts.{guarded_controller}
+use Rattle.mp_guard_control.specs.Driving as guarded
 
 -- The stream was read to its end, and the log of its run was put behind the header of the slack num/den and the bounds.
 abbrev pub WritesLog : Network → Ports → ℕ → ℕ → List ℕ → Type 0
@@ -39,6 +43,10 @@ WritesLog net ports num den bounds = Finished net (text_of (header_lines net num
 -- The lines of counts were read to their end, and the control log was put, each of whose answers has the stages of greatest pressure at its counts.
 abbrev pub WritesAnswers : Network → Ports → Type 0
 WritesAnswers net ports = control.Finished net ports.input_before ports.input_after ports.output_before ports.output_after
+
+-- The lines of counts were read to their end, and behind the header the control log under the guard was put, each of whose answers has the guarded stages at its counts.
+abbrev pub WritesGuarded : Network → model.Guard → Ports → List ℕ → Type 0
+WritesGuarded net guard ports header = guarded.Finished net (guarded_controller net guard header) ports.input_before ports.input_after ports.output_before ports.output_after
 
 -- This is what each command has done where the status is 0.
 abbrev pub Does : Command → Ports → Type 0
@@ -57,6 +65,7 @@ Does (Overload net) ports = Reads file_meaning ports.files net (λ n. (vector : 
 Does (Frames net f) ports = Reads file_meaning ports.files net (λ n. FramesHoldGreatest n f (WritesFramedLog n f ports))
 Does (Plan net c) ports = Reads file_meaning ports.files net (λ n. PlanHolds n c (WritesPlannedLog n ports))
 Does (Guard net cycle lost d) ports = Reads file_meaning ports.files net (λ n. (guard : model.Guard) × WritesGuard Done n cycle lost d ports guard)
+Does (ControlGuard net guard) ports = Reads file_meaning ports.files net (λ n. Reads (guard_meaning n) ports.files guard (λ g. ControlsUnder n g (WritesGuarded n g ports)))
 Does Unknown ports = ⊥
 
 -- A period leads from one state to the next: each junction shows the stage of greatest pressure at the queues before the period, the lowest number on ties; so its line says; and after it what entered is what departed and what is queued.
@@ -95,4 +104,5 @@ OfNetwork (Overload net) ports P = Reads file_meaning ports.files net P
 OfNetwork (Frames net f) ports P = Reads file_meaning ports.files net P
 OfNetwork (Plan net c) ports P = Reads file_meaning ports.files net P
 OfNetwork (Guard net cycle lost d) ports P = Reads file_meaning ports.files net P
+OfNetwork (ControlGuard net guard) ports P = Reads file_meaning ports.files net P
 OfNetwork Unknown ports P = ⊥

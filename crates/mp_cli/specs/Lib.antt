@@ -22,6 +22,7 @@ pub mod Overloading
 pub mod Framing
 pub mod Planning
 pub mod Guarding
+pub mod GuardControlling
 pub mod Ends
 pub mod Headline
 pub mod Complete

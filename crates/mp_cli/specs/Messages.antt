@@ -8,12 +8,14 @@ use Rattle.mp_net.specs.declared.fault.Spot.{Spot}
 use Rattle.mp_cert.specs.Texts.{vector_text}
 use Rattle.mp_flow.specs.declared.network.Place.{Place}
 use Rattle.mp_flow.specs.declared.network.Place.TheVariants as at
+use Rattle.mp_guard.specs.declared.fault.GuardFault.{GuardFault}
+use Rattle.mp_guard.specs.declared.fault.GuardFault.TheVariants as guarding
 use Rattle.mp_run.specs.declared.run.RunEnd.{RunEnd}
 use Rattle.mp_run.specs.declared.run.RunEnd.TheVariants as run
 use Rattle.mp_cli.specs.declared.outcome.CertRule.{CertRule}
 use Rattle.mp_cli.specs.declared.outcome.CertRule.TheVariants.{D, E, H, Whole, Part, Mass, Serve, Balance}
 use Rattle.mp_cli.specs.declared.outcome.TextKind.{TextKind}
-use Rattle.mp_cli.specs.declared.outcome.TextKind.TheVariants.{Certificate, Vector}
+use Rattle.mp_cli.specs.declared.outcome.TextKind.TheVariants.{Certificate, Vector, Guard}
 use Rattle.mp_cli.specs.declared.outcome.Outcome.{Outcome}
 use Rattle.mp_cli.specs.declared.outcome.Outcome.TheVariants as end
 use Rattle.mp_cli.specs.Commands.{Command, file_of}
@@ -51,6 +53,7 @@ spot_text spot = section_text spot.section spot.number
 abbrev pub kind_text : TextKind → List ℕ
 kind_text Certificate = codes "certificate text "
 kind_text Vector = codes "vector text "
+kind_text Guard = codes "guard text "
 
 -- This is a rule of a certificate, with the number of the movement or junction, or of the junction and the stage.
 abbrev pub cert_rule_text : CertRule → List ℕ
@@ -62,6 +65,17 @@ cert_rule_text (Part j s) = (codes "part " ++ decimal j) ++ (codes " " ++ decima
 cert_rule_text (Mass j) = codes "mass " ++ decimal j
 cert_rule_text (Serve k) = codes "serve " ++ decimal k
 cert_rule_text (Balance k) = codes "balance " ++ decimal k
+
+-- This is a rule of a guard, with the number of the movement or junction, or of the junction and the stage.
+abbrev pub guard_rule_text : GuardFault → List ℕ
+guard_rule_text guarding.Cycle = codes "cycle"
+guard_rule_text guarding.Lost = codes "lost"
+guard_rule_text guarding.D = codes "d"
+guard_rule_text (guarding.H k) = codes "h " ++ decimal k
+guard_rule_text (guarding.Green j s) = (codes "green " ++ decimal j) ++ (codes " " ++ decimal s)
+guard_rule_text (guarding.Mass j) = codes "mass " ++ decimal j
+guard_rule_text (guarding.Balance k) = codes "balance " ++ decimal k
+guard_rule_text (guarding.Serve k) = codes "serve " ++ decimal k
 
 -- This is the place of a calculation that exceeds 128 bits, with the number of the junction.
 abbrev pub place_text : Place → List ℕ
@@ -98,6 +112,7 @@ words_of end.Admitted = codes "network admitted"
 words_of (end.Critical against) = codes "network critical"
 words_of (end.Overloaded against) = codes "network overloaded"
 words_of (end.Certificate rule) = codes "certificate fails " ++ cert_rule_text rule
+words_of (end.BrokenGuard rule) = codes "guard fails " ++ guard_rule_text rule
 words_of end.ZeroVector = codes "vector fails zero"
 words_of end.WeakVector = codes "vector fails weak"
 words_of end.NoCertificate = codes "scale none"

@@ -6,10 +6,12 @@ use Rattle.mp_model.specs.Network.{Network}
 use Rattle.mp_model.specs.NetworkRules.{IsAcceptable}
 use Rattle.mp_model.specs.declared.limits.TheConstants.{MOST_FILE_BYTES}
 use Rattle.mp_cert.specs.TextMeaning.{cert_meaning, vector_meaning}
+use Rattle.mp_guard.specs.GuardText.{guard_meaning}
+use Rattle.mp_model.specs.Guard as model
 use Rattle.mp_netfile.specs.Meaning.{file_meaning}
 use Rattle.mp_cli.specs.declared.outcome.FileRole.TheVariants as file
 use Rattle.mp_cli.specs.declared.outcome.TextKind.{TextKind}
-use Rattle.mp_cli.specs.declared.outcome.TextKind.TheVariants.{Certificate, Vector}
+use Rattle.mp_cli.specs.declared.outcome.TextKind.TheVariants.{Certificate, Vector, Guard}
 use Rattle.mp_cli.specs.declared.outcome.Outcome.{Outcome}
 use Rattle.mp_cli.specs.declared.outcome.Outcome.TheVariants.{Store, Network as BadNetwork, LongText, Text, NoMemory}
 use Rattle.mp_cli.specs.Ports.{Files, Ports, RefusedOr}
@@ -53,3 +55,7 @@ OnCert outcome net other ports P = RefusedOr (RefusesText outcome Certificate (c
 -- A command on the vector of the other file: the file is refused, or the fact is true of the vector's numbers.
 abbrev pub OnVector : Outcome → Network → List ℕ → Ports → (List ℤ → Type 0) → Type 0
 OnVector outcome net other ports P = RefusedOr (RefusesText outcome Vector (vector_meaning net) ports.files other) ports (Reads (vector_meaning net) ports.files other P)
+
+-- A command on the guard of the other file: the file is refused, or the fact is true of the guard.
+abbrev pub OnGuard : Outcome → Network → List ℕ → Ports → (model.Guard → Type 0) → Type 0
+OnGuard outcome net other ports P = RefusedOr (RefusesText outcome Guard (guard_meaning net) ports.files other) ports (Reads (guard_meaning net) ports.files other P)

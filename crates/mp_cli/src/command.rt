@@ -70,6 +70,11 @@ pub enum Command<'a> {
         net: &'a str,
         c: u32,
     },
+    /// `controlguard NET GUARD`: the stages under the guard for each line of counts on the input.
+    ControlGuard {
+        net: &'a str,
+        guard: &'a str,
+    },
     /// `guard NET C L D`: the guard of the network with a cycle of C periods, from 1 to 3,600, a change of stage that
     /// loses L, 0 or 1, and the denominator D, of at most 9 digits.
     Guard {
@@ -216,6 +221,8 @@ fn command_on_two<'a>(word: &str, net: &'a str, other: &'a str) -> Command<'a>
         Command::Refute { net, vector: other }
     } else if is_word(word, "scale") {
         scale_of(net, other)
+    } else if is_word(word, "controlguard") {
+        Command::ControlGuard { net, guard: other }
     } else if is_word(word, "frames") {
         frames_of(net, other)
     } else if is_word(word, "plan") {
@@ -271,9 +278,10 @@ pub fn file_of<'a>(command: Command<'a>, role: FileRole) -> &'a str
         (FileRole::Other, Command::RunWith { cert, .. } | Command::Check { cert, .. }) => cert,
         (FileRole::Other, Command::AuditWith { cert, .. }) => cert,
         (FileRole::Other, Command::Refute { vector, .. }) => vector,
+        (FileRole::Other, Command::ControlGuard { guard, .. }) => guard,
         (FileRole::Net, Command::Run { net } | Command::Show { net }) => net,
         (FileRole::Net, Command::Certify { net } | Command::Audit { net }) => net,
-        (FileRole::Net, Command::Control { net }) => net,
+        (FileRole::Net, Command::Control { net } | Command::ControlGuard { net, .. }) => net,
         (FileRole::Net, Command::RunWith { net, .. } | Command::Check { net, .. }) => net,
         (FileRole::Net, Command::AuditWith { net, .. }) => net,
         (FileRole::Net, Command::Refute { net, .. } | Command::Scale { net, .. }) => net,

@@ -11,8 +11,8 @@ use mp_edge::{Sink, Source, Store};
 use mp_run::RunEnd;
 use std::alloc::Global;
 
-// The end of the controller, told as that of a run.
-fn run_end(end: ControlEnd) -> RunEnd
+/// The end of the controller, told as that of a run.
+pub fn run_end(end: ControlEnd) -> RunEnd
     ensures { result ≡ run_end end }
 {
     match end {

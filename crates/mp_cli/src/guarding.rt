@@ -30,8 +30,8 @@ fn outcome_of_finding(fault: FindFault) -> Outcome
     }
 }
 
-// The outcome of bursts that are not found.
-fn outcome_of_bursts(fault: BurstFault) -> Outcome
+/// The outcome of bursts that are not found.
+pub fn outcome_of_bursts(fault: BurstFault) -> Outcome
     ensures { result ≡ outcome_of_bursts fault }
 {
     match fault {

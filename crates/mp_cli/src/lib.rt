@@ -7,6 +7,7 @@ mod certifying;
 mod checking;
 mod command;
 mod controlling;
+mod controlling_guard;
 mod demonstrating;
 mod ending;
 mod framing;

@@ -2,7 +2,7 @@
 ghost use Rattle.std.specs.Prelude.{◌≡◌, ◌≤◌, ◌+◌, ◌++◌, ◌∷◌, [], length, codes, decimal};
 ghost use Rattle.mp_edge.specs.Outside.{Tells, Puts, HasCause};
 ghost use Rattle.mp_cli.specs.Commands.{asked};
-ghost use Rattle.mp_cli.specs.Messages.{rule_number, spot_text, kind_text, cert_rule_text, place_text, run_words, message_of, words_of, vector_behind};
+ghost use Rattle.mp_cli.specs.Messages.{rule_number, spot_text, kind_text, cert_rule_text, guard_rule_text, place_text, run_words, message_of, words_of, vector_behind};
 ghost use Rattle.mp_cli.specs.Statuses.{status_of};
 
 use crate::command::{Command, file_of};
@@ -11,6 +11,7 @@ use itoa::Integer;
 use mp_cert::print_against;
 use mp_edge::{Failed, Sink};
 use mp_flow::Place;
+use mp_guard::GuardFault;
 use mp_log::{push_number, push_text};
 use mp_net::{NetRule, Section, Spot};
 use mp_run::RunEnd;
@@ -66,6 +67,7 @@ fn push_kind(line: &mut LineSink, kind: TextKind)
     match kind {
         TextKind::Certificate => push_text(line, b"certificate text "),
         TextKind::Vector => push_text(line, b"vector text "),
+        TextKind::Guard => push_text(line, b"guard text "),
     }
 }
 
@@ -87,6 +89,27 @@ fn push_cert_rule(line: &mut LineSink, rule: CertRule)
         CertRule::Mass(j) => push_numbered(line, b"mass ", j),
         CertRule::Serve(k) => push_numbered(line, b"serve ", k),
         CertRule::Balance(k) => push_numbered(line, b"balance ", k),
+    }
+}
+
+// Appends a rule of a guard, and its numbers.
+fn push_guard_rule(line: &mut LineSink, rule: GuardFault)
+    requires { length line.old.held ≤ 200 }
+    ensures held { line.new.held ≡ line.old.held ++ guard_rule_text rule }
+    ensures few { length line.new.held ≤ length line.old.held + 120 }
+{
+    match rule {
+        GuardFault::Cycle => push_text(line, b"cycle"),
+        GuardFault::Lost => push_text(line, b"lost"),
+        GuardFault::D => push_text(line, b"d"),
+        GuardFault::H(k) => push_numbered(line, b"h ", k),
+        GuardFault::Green(j, s) => {
+            push_numbered(line, b"green ", j);
+            push_numbered(line, b" ", s);
+        }
+        GuardFault::Mass(j) => push_numbered(line, b"mass ", j),
+        GuardFault::Balance(k) => push_numbered(line, b"balance ", k),
+        GuardFault::Serve(k) => push_numbered(line, b"serve ", k),
     }
 }
 
@@ -187,6 +210,10 @@ fn push_message(line: &mut LineSink, outcome: &Outcome)
         Outcome::Certificate(rule) => {
             push_text(line, b"certificate fails ");
             push_cert_rule(line, *rule);
+        }
+        Outcome::BrokenGuard(rule) => {
+            push_text(line, b"guard fails ");
+            push_guard_rule(line, *rule);
         }
         Outcome::ZeroVector => push_text(line, b"vector fails zero"),
         Outcome::WeakVector => push_text(line, b"vector fails weak"),

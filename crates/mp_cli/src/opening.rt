@@ -6,6 +6,8 @@ ghost use Rattle.mp_model.specs.NetworkRules.{IsAcceptable};
 ghost use Rattle.mp_model.specs.declared.limits.TheConstants.{MOST_FILE_BYTES};
 ghost use Rattle.mp_cert.specs.TextMeaning.{cert_meaning, vector_meaning, AreNatural, IsNatural};
 ghost use Rattle.mp_cert.specs.Views.{cert_of};
+ghost use Rattle.mp_guard.specs.GuardText.{guard_meaning};
+ghost use Rattle.mp_model.specs.Guard.{HasGuardLengths};
 ghost use Rattle.mp_netfile.specs.Meaning.{file_meaning};
 ghost use Rattle.mp_cli.specs.Opening.{Reads, RefusesNetwork, RefusesText, IsUnread};
 ghost use Rattle.mp_cli.specs.Statuses.{status_of, HasNoPortFault};
@@ -13,6 +15,7 @@ ghost use Rattle.mp_cli.specs.Statuses.{status_of, HasNoPortFault};
 use crate::outcome::{FileRole, Outcome, TextKind};
 use mp_cert::{Against, Cert, TextFault, read_against, read_cert};
 use mp_edge::{Store, StoreFault};
+use mp_guard::{Guard, read_guard};
 use mp_model::limits::MOST_FILE_BYTES;
 use mp_net::{Net, NetFault, NetRule, Section, Spot};
 use mp_netfile::read_net;
@@ -130,6 +133,34 @@ pub fn open_vector<St: Store>(
         Ok(against) => Ok(against),
         Err(TextFault::Line(line)) => Err(Outcome::Text {
             kind: TextKind::Vector,
+            line,
+        }),
+        Err(TextFault::NoMemory) => Err(Outcome::NoMemory),
+    }
+}
+
+/// Reads the guard of the other file.
+pub fn open_guard<St: Store>(
+    alloc: Global,
+    net: &Net,
+    name: &str,
+    store: &mut St,
+) -> Result<Guard, Outcome>
+    ensures ok { IfOk result (λ guard. Reads (guard_meaning net.now) (St.files store.old) name.now (λ g. g ≡ guard)) }
+    ensures lengths { IfOk result (HasGuardLengths net.now) }
+    ensures refused { IfErr result (λ outcome. RefusesText outcome TextKind.Guard (guard_meaning net.now) (St.files store.old) name.now) }
+    ensures outside { IfErr result HasNoPortFault }
+    ensures later { St.faults store.old ≤ St.faults store.new }
+    ensures store { IfErr result (λ outcome. status_of outcome ≡ 2 → Rose (St.faults store.old) (St.faults store.new)) }
+{
+    let text = match read_text(alloc, name, TextKind::Guard, store) {
+        Ok(text) => text,
+        Err(outcome) => return Err(outcome),
+    };
+    match read_guard(alloc, net, &text) {
+        Ok(guard) => Ok(guard),
+        Err(TextFault::Line(line)) => Err(Outcome::Text {
+            kind: TextKind::Guard,
             line,
         }),
         Err(TextFault::NoMemory) => Err(Outcome::NoMemory),

@@ -5,6 +5,7 @@ ghost use Rattle.mp_cli.specs.Statuses.{status_of, run_status};
 
 use mp_cert::{Against, CertFault};
 use mp_flow::Place;
+use mp_guard::GuardFault;
 use mp_net::{JunctionNo, LinkNo, MovementNo, NetRule, Spot, StageNo};
 use mp_run::RunEnd;
 
@@ -13,7 +14,7 @@ use mp_run::RunEnd;
 pub enum FileRole {
     /// The network file.
     Net,
-    /// The other file: a certificate or a vector.
+    /// The other file: a certificate, a vector or a guard.
     Other,
 }
 
@@ -24,6 +25,8 @@ pub enum TextKind {
     Certificate,
     /// A vector against the network.
     Vector,
+    /// A guard.
+    Guard,
 }
 
 /// A rule of a certificate, with the numbers of the movement, or of the junction and the stage.
@@ -89,6 +92,8 @@ pub enum Outcome {
     Overloaded(Against),
     /// The certificate breaks the rule first.
     Certificate(CertRule),
+    /// The guard breaks the rule first.
+    BrokenGuard(GuardFault),
     /// All numbers of the vector are 0.
     ZeroVector,
     /// The load of the vector is below the capacity.
@@ -158,7 +163,7 @@ pub fn status_of(outcome: &Outcome) -> u8
         Outcome::Store(_) => 2,
         Outcome::Network { .. } | Outcome::LongText(_) | Outcome::Text { .. } => 3,
         Outcome::Admitted | Outcome::Critical(_) | Outcome::Overloaded(_) => 4,
-        Outcome::Certificate(_) | Outcome::NoCertificate => 4,
+        Outcome::Certificate(_) | Outcome::NoCertificate | Outcome::BrokenGuard(_) => 4,
         Outcome::ZeroVector | Outcome::WeakVector => 4,
         Outcome::Overflow(_) | Outcome::GrowthOverflow | Outcome::PlanOverflow => 5,
         Outcome::PivotLimit(_) => 6,

@@ -13,6 +13,7 @@ use crate::certifying::certify;
 use crate::checking::check;
 use crate::command::{Command, command_of};
 use crate::controlling::control;
+use crate::controlling_guard::control_guard;
 use crate::demonstrating::demo;
 use crate::framing::frames;
 use crate::guarding::guard;
@@ -63,6 +64,9 @@ fn obey<St: Store, In: Source, Out: Sink>(
             lost,
             d,
         } => guard(alloc, net, cycle, lost, d, store, out),
+        Command::ControlGuard { net, guard } => {
+            control_guard(alloc, net, guard, store, input, out)
+        }
         Command::Unknown => Outcome::Words,
     }
 }
@@ -82,7 +86,7 @@ fn obey<St: Store, In: Source, Out: Sink>(
 /// stream by frames of F periods, with the greatest slack of the frame network and the bounds of frames;
 /// `plan NET C` runs it by a cyclic plan of C periods, with the bounds of the plan; `guard NET C L D` writes
 /// a guard with a cycle of C periods, a change of stage that loses L, and the denominator D, whose rates are
-/// the least.
+/// the least; `controlguard NET GUARD` answers each line of counts on `input` with the stages under a guard.
 ///
 /// Every status but 0 has its line on `err`, whose faults are ignored: 1 for words that are not listed,
 /// 2 for a fault of the store, 3 for the first rule that the network file breaks and for another file
