@@ -65,9 +65,7 @@ fn control_by<In: Source, Out: Sink>(
     let Ok(mut owed) = Owed::new(alloc, net, guard) else {
         return Outcome::NoMemory;
     };
-    Outcome::Run(run_end(control_guarded(
-        net, guard, &header, &mut owed, input, out,
-    )))
+    Outcome::Run(run_end(control_guarded(net, guard, &header, &mut owed, input, out)))
 }
 
 /// Answers each line of counts on the input with the stages under the guard of the other file.
