@@ -5,3 +5,6 @@ pub mod Orders
 pub mod Places
 pub mod Settled
 pub mod Steps
+pub mod Courses
+pub mod Lines
+pub mod Bounded

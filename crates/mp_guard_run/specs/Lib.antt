@@ -4,3 +4,4 @@ pub mod Views
 pub mod OwedView
 pub mod Session
 pub mod SessionView
+pub mod Running

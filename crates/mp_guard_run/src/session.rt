@@ -11,8 +11,9 @@ ghost use Rattle.mp_guard.specs.Bursts.{AreBursts, bounds_of, waits_of};
 ghost use Rattle.mp_guard.specs.Surpluses.{AreSurpluses};
 ghost use Rattle.mp_step.specs.Standing.{Stands};
 ghost use Rattle.mp_step.specs.Taken.{HasTaken};
-ghost use Rattle.mp_guard_run.specs.Accounts.{stages_by};
-ghost use Rattle.mp_guard_run.specs.Session.{StandsAt};
+ghost use Rattle.mp_guard_run.specs.Accounts.{AreKnown, stages_by};
+ghost use Rattle.mp_guard_run.specs.Running.{IsAtOpening};
+ghost use Rattle.mp_guard_run.specs.Session.{IsGuarding, StandsAt};
 
 use crate::owed::Owed;
 use arrayvec::ArrayVec;
@@ -81,6 +82,7 @@ impl<'a> GuardSession<'a> {
         ensures waits { IfOk result (λ s. s.waits ≡ waits_of net.now guard.now) }
         ensures opening { IfOk result (λ s. StandsAt s (guarded_opening net.now guard.now)) }
         ensures taken { IfOk result (λ s. HasTaken net.now s.at []) }
+        ensures start { IfOk result IsAtOpening }
     {
         let _ = net.shares();
         let bounds = bounds(alloc, net, guard, surpluses, bursts)?;
@@ -132,7 +134,8 @@ impl<'a> GuardSession<'a> {
 
     /// Where the run stands.
     pub fn state(&self) -> &State
-        ensures { result.now ≡ self.now.at }
+        ensures value { result.now ≡ self.now.at }
+        ensures guarding { IsGuarding self.now }
     {
         &self.state
     }
@@ -158,6 +161,7 @@ impl<'a> GuardSession<'a> {
         ensures taken { OnOk result ((A : List (List ℕ)) → HasTaken self.old.net self.old.at A → HasTaken self.old.net self.new.at (A ++ arrivals.now ∷ [])) }
         ensures step { OnOk result ((now : GuardedState) → StandsAt self.old now → StandsAt self.new (guarded_advance self.old.net self.old.guard arrivals.now now)) }
         ensures stages { OnOk result (self.new.stages ≡ stages_by self.old.net self.old.guard (entry self.old.at.queues) self.old.at.period self.old.accounts) }
+        ensures known { OnOk result (AreKnown self.old.net self.new.stages) }
         ensures period { OnOk result (self.new.at.period ≡ self.old.at.period + 1) }
         ensures same { OnOk result (self.new ≡ record self.old { at = self.new.at; accounts = self.new.accounts; stages = self.new.stages }) }
     {

@@ -1,0 +1,11 @@
+use Rattle.std.proofs.Common.{◌≡◌, ◌+◌, ◌∙◌, sum, ap, subst, arith}
+use Rattle.mp_step.specs.Standing.{Standing}
+use Rattle.mp_guard_run.proofs.Lines.{finishes}
+use Rattle.mp_guard_run.proofs.run.GuardSessionDrivenAboveBucket.finish.Goals as goal
+
+pub returns-clause-end : goal.returns-clause-end
+returns-clause-end g c =
+    let at = c.state-state.ensures.value in
+    finishes c.put_end.result c.args.self.now c.period.result c.total_in-2.result c.total_out-2.result _ _ _ c.state-state.ensures.guarding.on (c.period.ensures.value ∙ ap (λ (st : Standing). st.period) at)
+    (c.total_in-2.ensures.value ∙ ap (λ (st : Standing). st.total_in) at) (c.total_out-2.ensures.value ∙ ap (λ (st : Standing). st.total_out) at) (omega arith)
+    (subst (λ (st : Standing). st.total_in ≡ st.total_out + sum st.queues) at c.total_in.ensures.conserved) c.put_end.ensures.bytes
