@@ -156,7 +156,7 @@ def main(arguments):
         crates = sorted({item[0].split(".")[0] for item in items})
         counts = [f"{crate} {sum(item[0].startswith(crate + '.') for item in items)}" for crate in crates]
         print(f"{name} {len(items)}: " + ", ".join(counts))
-    for variant in "Run", "RunWith", "Show", "Certify", "Check", "Refute", "Audit", "AuditWith", "Control", "Demo", "Scale", "Overload":
+    for variant in "Run", "RunWith", "Show", "Certify", "Check", "Refute", "Audit", "AuditWith", "Control", "Demo", "Scale", "Overload", "Frames", "Plan", "Guard", "ControlGuard", "RunGuard":
         counts = {name: len(definitions.under(clause, names, modules, variant)) for name, clause in clauses.items()}
         print(f"{variant}: " + ", ".join(f"{name} {count}" for name, count in counts.items() if count > 20))
 
