@@ -22,6 +22,8 @@ use Rattle.mp_gen.specs.DemoNetwork.{demo_network}
 use Rattle.mp_guard.specs.Bursts.{ComeToRest}
 use Rattle.mp_netfile.specs.Meaning.{file_meaning}
 use Rattle.mp_frame_run.specs.Running.{framed_course}
+use Rattle.mp_guard_run.specs.Running.{guarded_after, guarded_course, guarded_lines_from}
+use Rattle.mp_model.specs.GuardedChoice.{guarded_opening}
 use Rattle.mp_plan_run.specs.Running.{plan_course}
 use Rattle.mp_run.specs.declared.run.RunEnd.{RunEnd}
 use Rattle.mp_trial.specs.Search.{scaled, Found}
@@ -31,7 +33,7 @@ use Rattle.mp_cli.specs.declared.outcome.Outcome.{Outcome}
 use Rattle.mp_cli.specs.declared.outcome.Outcome.TheVariants.{Done, Store, Network as BadNetwork, LongText, Text, Admitted, Critical, Overloaded, Certificate, BrokenGuard, ZeroVector, WeakVector, NoCertificate, Overflow, GrowthOverflow, PivotLimit, SweepLimit, Uneven, LongFrames, FastFrames, CyclicPlan, FullPlan, PlanOverflow, NoGuard, FullGuard, BurstLimit, Differs, Read, Write, NoMemory}
 use Rattle.mp_cli.specs.Auditing.{audit_line, Compares}
 use Rattle.mp_cli.specs.Checking.{RefusesCert}
-use Rattle.mp_cli.specs.Commands.{Command, Run, RunWith, Show, Certify, Check, Refute, Audit, AuditWith, Control, Demo, Scale, Overload, Frames, Plan, Guard, ControlGuard, Unknown}
+use Rattle.mp_cli.specs.Commands.{Command, Run, RunWith, Show, Certify, Check, Refute, Audit, AuditWith, Control, Demo, Scale, Overload, Frames, Plan, Guard, ControlGuard, RunGuard, Unknown}
 use Rattle.mp_cli.specs.Complete.{IsGoodFile, IsGoodText, IsGoodStream, IsExcessiveStream, IsGoodLog, IsRunnableCert, IsGoodVector, IsAdmittable, IsGrowing, IsRunnableFramesCert, IsPlannable, IsGuardable, CanRun, IsGood, IsExcessive}
 use Rattle.mp_cli.specs.Ends.{Means}
 use Rattle.mp_cli.specs.Opening.{Reads, RefusesNetwork, RefusesText}
@@ -236,6 +238,9 @@ frames_read net F head ports how ends = arrivals_read net (framed_lines_from net
 plan_reads : (net : Network) (plan : PlanOfModel) (head : List ℕ) (ports : Ports) (how : RunEnd) → EndsOn (plan_course net plan) head how ports → ReadTo net how ports.input_before ports.input_after
 plan_reads net plan head ports how ends = arrivals_read net (planned_lines_from net plan (opening net)) (λ A. end_line net (planned_after net plan (opening net) A)) head ports how ends
 
+guard_reads : (net : Network) (guard : model.Guard) (head : List ℕ) (ports : Ports) (how : RunEnd) → EndsOn (guarded_course net guard) head how ports → ReadTo net how ports.input_before ports.input_after
+guard_reads net guard head ports how ends = arrivals_read net (guarded_lines_from net guard (guarded_opening net guard)) (λ A. end_line net (guarded_after net guard (guarded_opening net guard) A).state) head ports how ends
+
 -- a command that can run a stream comes to its run
 run_ends : (n : ℕ) (command : Command) (P : Network → Type 0) (outcome : Outcome) (ports : Ports) → IsQuiet outcome → CanRun command ports.files P → Means command outcome ports
     → ((net : Network) → P net → OnRun outcome (λ how. ReadTo net how ports.input_before ports.input_after) → EndsIn n outcome) → EndsIn n outcome
@@ -263,6 +268,14 @@ run_ends n (Plan net C) P outcome ports quiet good means stream =
     let on = of_good file_meaning ports.files net _ _ good reads in
     goes n outcome on.1 (plan_memory outcome good.value C good.is.0) (λ holds.
     stream good.value good.is.1 (on_run outcome _ _ (plan_reads good.value holds.plan _ ports) holds.is)))
+run_ends n (RunGuard net guard) P outcome ports quiet good means stream =
+    goes n outcome means (network_memory outcome ports.files net _ quiet good) (λ reads.
+    let on = of_good file_meaning ports.files net _ _ good reads in
+    let given = good.is.0.file in
+    goes n outcome on.1 (text_memory outcome _ (guard_meaning good.value) ports.files guard _ quiet good.is.0) (λ read.
+    goes n outcome (of_good (guard_meaning good.value) ports.files guard _ _ given read) (broken_memory outcome good.value given.value given.is.0) (λ kept.
+    goes n outcome kept.1 (bursts_memory outcome good.value given.value given.is.1) (λ runs.
+    stream good.value good.is.1 (on_run outcome _ _ (guard_reads good.value given.value _ ports) runs.is)))))
 run_ends n command P outcome ports quiet good means stream = absurd good
 
 good_run : (command : Command) (outcome : Outcome) (ports : Ports) → IsQuiet outcome → CanRun command ports.files (λ n. IsGoodStream n ports.input_before) → Means command outcome ports → EndsIn 0 outcome
@@ -343,6 +356,7 @@ completes (ControlGuard net guard) outcome ports quiet good means =
     goes 0 outcome on.1 (text_memory outcome _ (guard_meaning good.value) ports.files guard _ quiet good.is.0) (λ read.
     goes 0 outcome (of_good (guard_meaning good.value) ports.files guard _ _ given read) (broken_memory outcome good.value given.value given.is.0) (λ kept.
     goes 0 outcome kept.1 (bursts_memory outcome good.value given.value given.is.1) (λ controls. inl (good_guarded outcome good.value given.value ports _ quiet.read quiet.write good.is.1 controls.is)))))
+completes (RunGuard net guard) outcome ports quiet good means = good_run (RunGuard net guard) outcome ports quiet good means
 completes Unknown outcome ports quiet good means = absurd good
 
 pub exceeds : (command : Command) (outcome : Outcome) (ports : Ports) → IsQuiet outcome → IsExcessive command ports.files ports.input_before → Means command outcome ports → EndsIn 8 outcome

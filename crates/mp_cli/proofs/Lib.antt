@@ -6,6 +6,7 @@ pub mod GrowthLemmas
 pub mod GuardLemmas
 pub mod ControlLemmas
 pub mod GuardControlLemmas
+pub mod GuardRunLemmas
 pub mod StreamLemmas
 pub mod FrameLemmas
 pub mod PlanLemmas

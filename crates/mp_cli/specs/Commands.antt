@@ -25,6 +25,7 @@ pub data Command : Type 0 where
   Plan : List ℕ → ℕ → Command
   Guard : List ℕ → ℕ → ℕ → ℕ → Command
   ControlGuard : List ℕ → List ℕ → Command
+  RunGuard : List ℕ → List ℕ → Command
   Unknown : Command
 
 -- This is the command of the code, with the names in place of what points to them.
@@ -45,6 +46,7 @@ asked (said.Frames net f) = Frames net.now f
 asked (said.Plan net c) = Plan net.now c
 asked (said.Guard net cycle lost d) = Guard net.now cycle lost d
 asked (said.ControlGuard net guard) = ControlGuard net.now guard.now
+asked (said.RunGuard net guard) = RunGuard net.now guard.now
 asked said.Unknown = Unknown
 
 -- The word is the one that is listed.
@@ -125,6 +127,7 @@ command_on_two word net other =
     else if is_word word (codes "check") then Check net other
     else if is_word word (codes "refute") then Refute net other
     else if is_word word (codes "scale") then scale_of net other
+    else if is_word word (codes "runguard") then RunGuard net other
     else if is_word word (codes "controlguard") then ControlGuard net other
     else if is_word word (codes "frames") then frames_of net other
     else if is_word word (codes "plan") then plan_of net other
@@ -171,4 +174,6 @@ file_of (Plan net c) Net = net
 file_of (Guard net cycle lost d) Net = net
 file_of (ControlGuard net guard) Net = net
 file_of (ControlGuard net guard) Other = guard
+file_of (RunGuard net guard) Net = net
+file_of (RunGuard net guard) Other = guard
 file_of command role = []

@@ -33,7 +33,7 @@ use Rattle.mp_verdict.specs.Stated.{Reached}
 use Rattle.mp_verdict.specs.Verdict.{verdict, Admitted}
 use Rattle.mp_verdict.specs.Verdict as judged
 use Rattle.mp_overload.specs.Evens.{uneven_link}
-use Rattle.mp_cli.specs.Commands.{Command, Run, RunWith, Show, Certify, Check, Refute, Audit, AuditWith, Control, Demo, Scale, Overload, Frames, Plan, Guard, ControlGuard, Unknown}
+use Rattle.mp_cli.specs.Commands.{Command, Run, RunWith, Show, Certify, Check, Refute, Audit, AuditWith, Control, Demo, Scale, Overload, Frames, Plan, Guard, ControlGuard, RunGuard, Unknown}
 use Rattle.mp_cli.specs.Overloading.{IsTold}
 use Rattle.mp_cli.specs.Ports.{Files}
 use Rattle.mp_cli.specs.Refuting.{IsFormed}
@@ -148,6 +148,7 @@ CanRun (Run net) files P = IsGoodFile file_meaning files net (λ n. IsRunnable n
 CanRun (RunWith net cert) files P = IsGoodFile file_meaning files net (λ n. IsGoodText (cert_meaning n) files cert (IsRunnableCert n) × P n)
 CanRun (Frames net F) files P = IsGoodFile file_meaning files net (λ n. IsRunnableByFrames n F × P n)
 CanRun (Plan net C) files P = IsGoodFile file_meaning files net (λ n. IsPlannable n C × P n)
+CanRun (RunGuard net guard) files P = IsGoodFile file_meaning files net (λ n. IsGoodText (guard_meaning n) files guard (λ g. model.Guards n g × ComeToRest n g) × P n)
 CanRun command files P = ⊥
 
 -- The files of a command are good, and so is what is to come from the input.
@@ -168,6 +169,7 @@ IsGood (Frames net F) files left = CanRun (Frames net F) files (λ n. IsGoodStre
 IsGood (Plan net C) files left = CanRun (Plan net C) files (λ n. IsGoodStream n left)
 IsGood (Guard net cycle lost d) files left = IsGoodFile file_meaning files net (λ n. IsGuardable n cycle lost d)
 IsGood (ControlGuard net guard) files left = IsGoodFile file_meaning files net (λ n. IsGoodText (guard_meaning n) files guard (λ g. model.Guards n g × ComeToRest n g) × IsGoodInput n left)
+IsGood (RunGuard net guard) files left = CanRun (RunGuard net guard) files (λ n. IsGoodStream n left)
 IsGood Unknown files left = ⊥
 
 -- The files of a command are good, and the stream is above a bucket.

@@ -23,6 +23,7 @@ pub mod Framing
 pub mod Planning
 pub mod Guarding
 pub mod GuardControlling
+pub mod GuardRunning
 pub mod Ends
 pub mod Headline
 pub mod Complete

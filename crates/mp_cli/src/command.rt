@@ -70,6 +70,11 @@ pub enum Command<'a> {
         net: &'a str,
         c: u32,
     },
+    /// `runguard NET GUARD`: the log of the stream's run under the guard.
+    RunGuard {
+        net: &'a str,
+        guard: &'a str,
+    },
     /// `controlguard NET GUARD`: the stages under the guard for each line of counts on the input.
     ControlGuard {
         net: &'a str,
@@ -221,6 +226,8 @@ fn command_on_two<'a>(word: &str, net: &'a str, other: &'a str) -> Command<'a>
         Command::Refute { net, vector: other }
     } else if is_word(word, "scale") {
         scale_of(net, other)
+    } else if is_word(word, "runguard") {
+        Command::RunGuard { net, guard: other }
     } else if is_word(word, "controlguard") {
         Command::ControlGuard { net, guard: other }
     } else if is_word(word, "frames") {
@@ -279,6 +286,8 @@ pub fn file_of<'a>(command: Command<'a>, role: FileRole) -> &'a str
         (FileRole::Other, Command::AuditWith { cert, .. }) => cert,
         (FileRole::Other, Command::Refute { vector, .. }) => vector,
         (FileRole::Other, Command::ControlGuard { guard, .. }) => guard,
+        (FileRole::Other, Command::RunGuard { guard, .. }) => guard,
+        (FileRole::Net, Command::RunGuard { net, .. }) => net,
         (FileRole::Net, Command::Run { net } | Command::Show { net }) => net,
         (FileRole::Net, Command::Certify { net } | Command::Audit { net }) => net,
         (FileRole::Net, Command::Control { net } | Command::ControlGuard { net, .. }) => net,

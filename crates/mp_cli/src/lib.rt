@@ -20,6 +20,7 @@ mod planning;
 mod program;
 mod refuting;
 mod running;
+mod running_guard;
 mod running_with;
 mod scaling;
 mod session;

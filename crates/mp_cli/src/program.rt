@@ -23,6 +23,7 @@ use crate::overloading::overload;
 use crate::planning::plan;
 use crate::refuting::refute;
 use crate::running::run;
+use crate::running_guard::run_guard;
 use crate::running_with::run_with;
 use crate::scaling::scale;
 use crate::showing::show;
@@ -67,6 +68,7 @@ fn obey<St: Store, In: Source, Out: Sink>(
         Command::ControlGuard { net, guard } => {
             control_guard(alloc, net, guard, store, input, out)
         }
+        Command::RunGuard { net, guard } => run_guard(alloc, net, guard, store, input, out),
         Command::Unknown => Outcome::Words,
     }
 }
@@ -86,7 +88,8 @@ fn obey<St: Store, In: Source, Out: Sink>(
 /// stream by frames of F periods, with the greatest slack of the frame network and the bounds of frames;
 /// `plan NET C` runs it by a cyclic plan of C periods, with the bounds of the plan; `guard NET C L D` writes
 /// a guard with a cycle of C periods, a change of stage that loses L, and the denominator D, whose rates are
-/// the least; `controlguard NET GUARD` answers each line of counts on `input` with the stages under a guard.
+/// the least; `controlguard NET GUARD` answers each line of counts on `input` with the stages under a guard;
+/// `runguard NET GUARD` runs the stream under it.
 ///
 /// Every status but 0 has its line on `err`, whose faults are ignored: 1 for words that are not listed,
 /// 2 for a fault of the store, 3 for the first rule that the network file breaks and for another file

@@ -1,0 +1,80 @@
+//! A run under a guard.
+ghost use Rattle.std.specs.Prelude.{◌≡◌};
+ghost use Rattle.mp_edge.specs.Outside.{Rose};
+ghost use Rattle.mp_model.specs.Guard.{Guards};
+ghost use Rattle.mp_cli.specs.GuardRunning.{RunsBy, RunsGuarded};
+ghost use Rattle.mp_cli.specs.Ports.{Files};
+ghost use Rattle.mp_cli.specs.Statuses.{status_of};
+
+use crate::ending::run_end;
+use crate::guarding::outcome_of_bursts;
+use crate::opening::{open_guard, open_net};
+use crate::outcome::Outcome;
+use mp_edge::{Sink, Source, Store};
+use mp_guard::{Guard, PutFault, bursts, check, put_guard_header, surpluses};
+use mp_guard_control::controlled_law;
+use mp_guard_run::{GuardSession, run_guarded};
+use mp_net::Net;
+use mp_run::RunEnd;
+use std::alloc::Global;
+
+// Runs the stream under a guard that keeps all rules. All memory is taken before the first byte is put.
+fn stream_guarded<In: Source, Out: Sink>(
+    alloc: Global,
+    net: &Net,
+    guard: &Guard,
+    input: &mut In,
+    out: &mut Out,
+) -> Outcome
+    requires { Guards net.now guard.now }
+    ensures so { (files : Files) → RunsBy result net.now guard.now (record { files = files; input_before = In.left input.old; input_after = In.left input.new; output_before = Out.held out.old; output_after = Out.held out.new }) }
+    ensures unstored { ¬ (status_of result ≡ 2) }
+    ensures read { status_of result ≡ 10 → Rose (In.faults input.old) (In.faults input.new) }
+    ensures write { status_of result ≡ 11 → Rose (Out.faults out.old) (Out.faults out.new) }
+{
+    controlled_law();
+    let _ = net.shares();
+    let Ok(surpluses) = surpluses(alloc, net) else {
+        return Outcome::NoMemory;
+    };
+    let bursts = match bursts(alloc, net, guard, &surpluses) {
+        Ok(bursts) => bursts,
+        Err(fault) => return outcome_of_bursts(fault),
+    };
+    let Ok(mut session) = GuardSession::open(alloc, net, guard, &surpluses, &bursts) else {
+        return Outcome::NoMemory;
+    };
+    match put_guard_header(alloc, out, net, guard, session.bounds(), session.waits()) {
+        Ok(()) => Outcome::Run(run_end(run_guarded(&mut session, input, out))),
+        Err(PutFault::NoMemory) => Outcome::NoMemory,
+        Err(PutFault::Failed) => Outcome::Run(RunEnd::Write),
+    }
+}
+
+/// Runs the stream under the guard of the other file.
+pub fn run_guard<St: Store, In: Source, Out: Sink>(
+    alloc: Global,
+    name: &str,
+    other: &str,
+    store: &mut St,
+    input: &mut In,
+    out: &mut Out,
+) -> Outcome
+    ensures means { RunsGuarded result name.now other.now (record { files = St.files store.old; input_before = In.left input.old; input_after = In.left input.new; output_before = Out.held out.old; output_after = Out.held out.new }) }
+    ensures store { status_of result ≡ 2 → Rose (St.faults store.old) (St.faults store.new) }
+    ensures read { status_of result ≡ 10 → Rose (In.faults input.old) (In.faults input.new) }
+    ensures write { status_of result ≡ 11 → Rose (Out.faults out.old) (Out.faults out.new) }
+{
+    let net = match open_net(alloc, name, store) {
+        Ok(net) => net,
+        Err(outcome) => return outcome,
+    };
+    let guard = match open_guard(alloc, &net, other, store) {
+        Ok(guard) => guard,
+        Err(outcome) => return outcome,
+    };
+    match check(&net, &guard) {
+        Ok(()) => stream_guarded(alloc, &net, &guard, input, out),
+        Err(fault) => Outcome::BrokenGuard(fault),
+    }
+}
