@@ -1,18 +1,19 @@
 -- The stages of the controller are candidates in every period, and so the laws of guarded greens hold of them.
-use Rattle.std.proofs.Common.{◌≡◌, ◌≤◌, ◌<◌, ℕ, zero, suc, ◌+◌, ◌-◌, ◌*◌, true, List, length, Some, None, arith, sym, ◌∙◌, ap₂, subst, ⊎_elim, add-one}
+use Rattle.std.proofs.Common.{◌≡◌, ◌≤◌, ◌<◌, ℕ, zero, suc, ◌+◌, ◌-◌, ◌*◌, true, List, [], length, Some, None, arith, sym, ◌∙◌, ap, ap₂, subst, ⊎_elim, add-one, le_refl}
 use Rattle.std.specs.List.{AllByRecursion}
 use Rattle.std.proofs.lemmas.Bool.{cases_lt}
 use Rattle.std.proofs.lemmas.List.FromFn.{get_or-map-range_with_len}
 use Rattle.mp_guarded.specs.Bounds.{IsGuarded}
-use Rattle.mp_guarded.specs.Greens.{KeepsGreens, IsCounted}
+use Rattle.mp_guarded.specs.Greens.{IsCounted}
+use Rattle.mp_guarded.specs.Waits.{IsGreenWhereCounted, PlaysCandidates, wait_of}
 use Rattle.mp_guarded.proofs.Bounds.{queues_guarded}
-use Rattle.mp_guarded.proofs.Greens.{wait_holds}
+use Rattle.mp_guarded.proofs.Waits.{play_waits, same_greens}
 use Rattle.mp_laws.proofs.Lists.{at_in, each_in, in_numbers, numbered}
 use Rattle.mp_model.specs.Arrivals.{IsPermitted}
-use Rattle.mp_model.specs.Guard.{Guard, Guards, GreensFit, GuardedServeRule, CarryBursts, Holds, greens_at, red}
+use Rattle.mp_model.specs.Guard.{Guard, Guards, CarryBursts, Holds, greens_at, red}
 use Rattle.mp_model.specs.GuardedChoice.{guarded_stage, no_account}
-use Rattle.mp_model.specs.GuardedRun.{Account, IsCandidate, KeepsGuard, Play, account_of, guarded_state, lights_of, owed_in, paid, stage_of}
-use Rattle.mp_model.specs.Lights.{IsWaiting, lit_arrivals}
+use Rattle.mp_model.specs.GuardedRun.{Account, IsCandidate, KeepsGuard, Play, account_of, green_in, guarded_state, is_green, lights_of, owed_in, paid, stage_of}
+use Rattle.mp_model.specs.Lights.{IsWaiting, greens_in, lit_arrivals}
 use Rattle.mp_model.specs.Network.{Network, entry, has, junction_at, junction_numbers, junction_of_movement, movement_numbers}
 use Rattle.mp_model.specs.NetworkRules.{IsNetwork}
 use Rattle.mp_model.specs.Step.{queue}
@@ -23,7 +24,7 @@ use Rattle.mp_guard_run.proofs.Orders.{takes_candidate}
 use Rattle.mp_guard_run.proofs.Places.{opening_order, order_at}
 use Rattle.mp_guard_run.proofs.Settled.{orders_after}
 use Rattle.mp_guard_control.specs.Accounts.{AreLeft, accounts_before, counts_in, stages_in}
-use Rattle.mp_guard_control.specs.Kept.{controlled_play, AreZerosTrue, IsGreenInTime, IsKeptBelow, StagesKeep, queue_in}
+use Rattle.mp_guard_control.specs.Kept.{controlled_play, AreZerosTrue, CountsKeepWaits, IsGreenInTime, IsKeptBelow, StagesKeep, green_by, queue_in}
 
 module _ (net : Network) (ok : IsNetwork net) (guard : Guard) (guards : Guards net guard) where
   candidates_of : (counts : ℕ → ℕ) (t : ℕ) (accounts : List Account) → AreInOrder net guard t accounts → AreCandidates net guard counts t accounts (stages_by net guard counts t accounts)
@@ -62,10 +63,18 @@ module _ (net : Network) (ok : IsNetwork net) (guard : Guard) (guards : Guards n
         (at_in (λ j. IsCandidate guard (junction_at net j) (counts t) t (account_among (accounts_before net guard counts t) j) (entry (stages_in net guard counts t) j)) j (junction_numbers net) h
         (candidates_of (counts t) t (accounts_before net guard counts t) (in_order counts t)))
 
+    candidates_in : (t : ℕ) → PlaysCandidates net guard play t
+    candidates_in t = each_in (λ j. IsCandidate guard (junction_at net j) (play.counts t) t (account_of net guard play j t) (stage_of play j t)) (junction_numbers net) (candidate_in t)
+
+    green_is : (k : ℕ) → has (movement_numbers net) k ≡ true → (t : ℕ) → green_by net guard counts k t ≡ green_in net guard play t k
+    green_is k h t =
+        let j = junction_of_movement net k in
+        ap (λ account. is_green guard.lost (junction_at net j) account.before (stage_of play j t) k) (account_is t j (junction_in net ok k h))
+
     module _ (T : ℕ) (permitted : IsPermitted net (lit_arrivals (lights_of net guard play) T)) (zeros : AreZerosTrue net guard play T) where
       keeps : (t : ℕ) → t < T → KeepsGuard net guard play t
       keeps t lt = record {
-        candidates = each_in (λ j. IsCandidate guard (junction_at net j) (play.counts t) t (account_of net guard play j t) (stage_of play j t)) (junction_numbers net) (candidate_in t);
+        candidates = candidates_in t;
         zeros = zeros t lt;
       }
 
@@ -76,14 +85,6 @@ module _ (net : Network) (ok : IsNetwork net) (guard : Guard) (guards : Guards n
       below surplus bursts carry = each_in (IsKeptBelow net guard play T surplus bursts) (movement_numbers net) (λ k h bound holds t le.
           at_in (λ k. (bound : ℕ) → Holds net guard (surplus k) bursts k (1 + 2 * red net guard k) bound → queue (guarded_state net guard play t) k ≤ bound) k (movement_numbers net) h
           (queues_guarded net ok guard guards surplus bursts carry play T guarded t le) bound holds)
-
-      keeps_greens : (j : ℕ) → has (junction_numbers net) j ≡ true → KeepsGreens guard (greens_at guard j) (junction_at net j) play.counts (stage_of play j) T
-      keeps_greens j h = record {
-        some = guards.cycle.0;
-        one_each = at_in (λ j. length (greens_at guard j) ≡ length (junction_at net j).stages) j (junction_numbers net) h guards.lengths.greens;
-        fit = at_in (λ j. GreensFit guard (greens_at guard j)) j (junction_numbers net) h guards.masses;
-        candidates = λ t lt. candidate_in t j h;
-      }
 
       -- who waits is counted
       counted : (k a n : ℕ) → has (movement_numbers net) k ≡ true → a + n ≤ T → IsWaiting (queue_in net guard play k) a n → IsCounted play.counts k a n
@@ -97,9 +98,7 @@ module _ (net : Network) (ok : IsNetwork net) (guard : Guard) (guards : Guards n
 
       in_time : AllByRecursion (IsGreenInTime net guard play T) (movement_numbers net)
       in_time = each_in (IsGreenInTime net guard play T) (movement_numbers net) (λ k h a le waits.
-          let j = junction_of_movement net k in
-          let serve = at_in (GuardedServeRule net guard) k (movement_numbers net) h guards.serves in
-          wait_holds guard (greens_at guard j) (junction_at net j) play.counts (stage_of play j) T (keeps_greens j (junction_in net ok k h)) k a serve.some le (counted k a (2 * red net guard k + 1) h le waits))
+          at_in (IsGreenWhereCounted net guard play T) k (movement_numbers net) h (play_waits net ok guard guards play T (λ t lt. candidates_in t)) a le (counted k a (wait_of net guard k + 1) h le waits))
 
 pub stages_keep : (net : Network) → IsNetwork net → (guard : Guard) → Guards net guard → StagesKeep net guard
 stages_keep net ok guard guards counts arrivals T permitted zeros = record {
@@ -107,3 +106,15 @@ stages_keep net ok guard guards counts arrivals T permitted zeros = record {
   bounds = below net ok guard guards counts arrivals T permitted zeros;
   waits = in_time net ok guard guards counts arrivals T permitted zeros;
 }
+
+-- whatever is counted: the arrivals have no part in the stages
+pub counts_keep : (net : Network) → IsNetwork net → (guard : Guard) → Guards net guard → CountsKeepWaits net guard
+counts_keep net ok guard guards counts =
+    let nothing : ℕ → List ℕ = λ t. [] in
+    let told : Play = controlled_play net guard counts nothing in
+    each_in (λ k. (a : ℕ) → IsCounted counts k a (wait_of net guard k + 1) → 1 ≤ greens_in (green_by net guard counts k) a (wait_of net guard k + 1)) (movement_numbers net) (λ k h a counted.
+    let n = wait_of net guard k + 1 in
+    let some : 1 ≤ greens_in (λ t. green_in net guard told t k) a n =
+    at_in (IsGreenWhereCounted net guard told (a + n)) k (movement_numbers net) h (play_waits net ok guard guards told (a + n) (λ t lt. candidates_in net ok guard guards counts nothing t)) a (le_refl (a + n)) counted in
+    let there = same_greens (green_by net guard counts k) (λ t. green_in net guard told t k) a n (green_is net ok guard guards counts nothing k h) in
+    omega arith)

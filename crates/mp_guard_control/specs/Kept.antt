@@ -1,5 +1,5 @@
 -- What the stages of the controller under a guard keep, by whatever counts of which a 0 is true.
-use Rattle.std.specs.Prelude.{◌≡◌, ◌≤◌, ◌<◌, ℕ, ◌+◌, ◌*◌, List}
+use Rattle.std.specs.Prelude.{◌≡◌, ◌≤◌, ◌<◌, ℕ, ◌+◌, ◌*◌, Bool, List}
 use Rattle.std.specs.List.{AllByRecursion}
 use Rattle.mp_model.specs.Arrivals.{IsPermitted}
 use Rattle.mp_model.specs.Guard.{Guard, Guards, CarryBursts, Holds, red}
@@ -8,7 +8,10 @@ use Rattle.mp_model.specs.Lights.{IsWaiting, greens_in, lit_arrivals}
 use Rattle.mp_model.specs.Network.{Network, movement_numbers}
 use Rattle.mp_model.specs.NetworkRules.{IsNetwork}
 use Rattle.mp_model.specs.Step.{queue}
-use Rattle.mp_guard_control.specs.Accounts.{stages_in}
+use Rattle.mp_guarded.specs.Greens.{IsCounted}
+use Rattle.mp_guarded.specs.Waits.{wait_of}
+use Rattle.mp_guard_run.specs.Accounts.{is_green_under}
+use Rattle.mp_guard_control.specs.Accounts.{accounts_before, stages_in}
 
 -- In this play the junctions are told these counts and take the stages of the controller, over these arrivals.
 abbrev pub controlled_play : Network → Guard → (ℕ → ℕ → ℕ) → (ℕ → List ℕ) → Play
@@ -44,3 +47,16 @@ StagesKeep net guard = (counts : ℕ → ℕ → ℕ) (arrivals : ℕ → List �
 -- It holds under each guard of each network.
 abbrev pub ControlledLaw : Type 0
 ControlledLaw = (net : Network) → IsNetwork net → (guard : Guard) → Guards net guard → StagesKeep net guard
+
+-- Movement k is green in period t where the junctions take the stages of the controller by these counts.
+abbrev pub green_by : Network → Guard → (ℕ → ℕ → ℕ) → ℕ → ℕ → Bool
+green_by net guard counts k t = is_green_under net guard (accounts_before net guard counts t) (stages_in net guard counts t) k
+
+-- By any counts, true or not, movement k is green in one of any periods that come one after the other, one more than its wait, in each of which somebody of it is counted.
+abbrev pub CountsKeepWaits : Network → Guard → Type 0
+CountsKeepWaits net guard = (counts : ℕ → ℕ → ℕ) →
+    AllByRecursion (λ k. (a : ℕ) → IsCounted counts k a (wait_of net guard k + 1) → 1 ≤ greens_in (green_by net guard counts k) a (wait_of net guard k + 1)) (movement_numbers net)
+
+-- It holds under each guard of each network.
+abbrev pub CountedWaitLaw : Type 0
+CountedWaitLaw = (net : Network) → IsNetwork net → (guard : Guard) → Guards net guard → CountsKeepWaits net guard

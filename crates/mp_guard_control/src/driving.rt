@@ -3,7 +3,7 @@ ghost use Rattle.std.specs.Prelude.{◌≡◌, ◌≤◌, ◌<◌, ◌+◌, ◌+
 ghost use Rattle.mp_edge.specs.Outside.{Rose, Tells, Puts, HasCause};
 ghost use Rattle.mp_guard_control.specs.Accounts.{accounts_by, accounts_next, answer_by, guarded_controller};
 ghost use Rattle.mp_guard_control.specs.Driving.{EndsAs, OfLine, Answers, Takes, Finishes};
-ghost use Rattle.mp_guard_control.specs.Kept.{StagesKeep};
+ghost use Rattle.mp_guard_control.specs.Kept.{CountsKeepWaits, StagesKeep};
 ghost use Rattle.mp_control.specs.Input.{AreSmall};
 ghost use Rattle.mp_guard_run.specs.Accounts.{AreInOrder};
 ghost use Rattle.mp_model.specs.ControlLog.{plain_line};
@@ -14,7 +14,7 @@ ghost use Rattle.mp_model.specs.declared.limits.TheConstants.{MOST_LINES};
 ghost use Rattle.mp_press.specs.Queues.{naturals};
 ghost use Rattle.mp_text.specs.Cutting.{NoLineFeed};
 
-use crate::law::controlled_law;
+use crate::law::{controlled_law, counted_wait_law};
 use arrayvec::ArrayVec;
 use mp_control::{ControlEnd, InputKind, put_answer, put_end, read_input};
 use mp_edge::{Failed, Sink, Source};
@@ -172,7 +172,8 @@ fn finish<Out: Sink>(out: &mut Out, answers: u64) -> ControlEnd
 /// asked for, so that whoever counts can wait for it; at the end of the input comes the end line.
 ///
 /// The accounts are those of the opening, and are kept from one line to the next; a line that is skipped is no period.
-/// The counts may be wrong: so long as a count of 0 is true, no queue is above its bound. It takes no memory.
+/// The counts may be wrong: so long as a count of 0 is true, no queue is above its bound; and whatever is counted, no
+/// movement of which somebody is counted is without green longer than its wait. It takes no memory.
 pub fn control_guarded<In: Source, Out: Sink>(
     net: &Net,
     guard: &Guard,
@@ -185,12 +186,14 @@ pub fn control_guarded<In: Source, Out: Sink>(
     requires opening { owed.old ≡ (guarded_opening net.now guard.now).accounts }
     ensures ends { EndsAs net.now (guarded_controller net.now guard.now header.now) result (In.left input.old) (In.left input.new) (Out.held out.old) (Out.held out.new) }
     ensures kept { StagesKeep net.now guard.now }
+    ensures waits { CountsKeepWaits net.now guard.now }
     ensures in_later { In.faults input.old ≤ In.faults input.new }
     ensures out_later { Out.faults out.old ≤ Out.faults out.new }
     ensures read { result ≡ ControlEnd.Read → Rose (In.faults input.old) (In.faults input.new) }
     ensures write { result ≡ ControlEnd.Write → Rose (Out.faults out.old) (Out.faults out.new) }
 {
     controlled_law();
+    counted_wait_law();
     let _ = net.shares();
     if put_text(out, header).is_err() {
         return ControlEnd::Write;

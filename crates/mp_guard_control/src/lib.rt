@@ -11,4 +11,4 @@ mod law;
 mod tests;
 
 pub use driving::control_guarded;
-pub use law::controlled_law;
+pub use law::{controlled_law, counted_wait_law};

@@ -4,9 +4,12 @@ use Rattle.std.specs.List.{All, AllByRecursion}
 use Rattle.std.proofs.lemmas.List.{get_or_default, length-map}
 use Rattle.std.proofs.lemmas.List.FromFn.{length-map-range_with_len}
 use Rattle.mp_guard.proofs.RuleLemmas.{stages_few}
+use Rattle.mp_guard.specs.Bursts.{waits_of}
 use Rattle.mp_guarded.proofs.Runs.{run_bounded}
 use Rattle.mp_guarded.proofs.Sweeps.{sweeps_least}
+use Rattle.mp_guarded.proofs.Waits.{run_waits}
 use Rattle.mp_guarded.specs.Runs.{IsBounded}
+use Rattle.mp_guarded.specs.Waits.{IsServedWithin, wait_of}
 use Rattle.mp_laws.proofs.Lists.{AllOf-map, at_in, each_in, numbered}
 use Rattle.mp_log.proofs.FedLemmas.{fed_few}
 use Rattle.mp_log.specs.Fitting.{FitsLine}
@@ -20,7 +23,7 @@ use Rattle.mp_model.specs.NetworkRules.{IsAcceptable}
 use Rattle.mp_model.specs.Step.{queue}
 use Rattle.mp_step.specs.Standing.{Standing}
 use Rattle.mp_guard_run.specs.Accounts.{AreKnown, account_among, stages_by}
-use Rattle.mp_guard_run.specs.Running.{GuardStaysWithin, HoldsBounds}
+use Rattle.mp_guard_run.specs.Running.{GuardKeepsWaits, GuardStaysWithin, HoldsBounds}
 use Rattle.mp_guard_run.specs.Session.{Guarded, IsGuarding}
 use Rattle.mp_guard_run.proofs.Places.{known_at}
 
@@ -43,6 +46,16 @@ stays_within s guarding holds A permitted =
     ap (λ bs. entry bs k) holds.are ∙ numbered (guarded_bound net guard surplus holds.rests.bursts) (length net.movements) k there ∙ ap (λ bs. guarded_bound net guard surplus bs k) found.found in
     subst (λ n. queue now.state k ≤ n) (sym read) (below (guarded_bound net guard surplus bursts k) enough)))
     (guarded_run net guard A) (run_bounded net guarding.acceptable.network guard guarding.guards surplus bursts least.carry A permitted)
+
+-- over any arrivals no movement with somebody waiting is without green longer than its wait
+pub keeps_waits : (s : Guarded) → IsGuarding s → s.waits ≡ waits_of s.net s.guard → (A : List (List ℕ)) → GuardKeepsWaits s.net s.guard s.waits A
+keeps_waits s guarding are A =
+    let net = s.net in
+    let guard = s.guard in
+    let kept = run_waits net guarding.acceptable.network guard guarding.guards A in
+    each_in (λ k. IsServedWithin net guard k (entry s.waits k) (guarded_run net guard A)) (movement_numbers net) (λ k there.
+    let read : entry s.waits k ≡ wait_of net guard k = ap (λ ws. entry ws k) are ∙ numbered (wait_of net guard) (length net.movements) k there in
+    subst (λ n. IsServedWithin net guard k n (guarded_run net guard A)) (sym read) (at_in (λ k. IsServedWithin net guard k (wait_of net guard k) (guarded_run net guard A)) k (movement_numbers net) there kept))
 
 -- known stages have at most two digits
 stages_small : (net : Network) → IsAcceptable net → (stages : List ℕ) → length stages ≡ length net.junctions → AreKnown net stages → All (λ s. s ≤ 16) stages

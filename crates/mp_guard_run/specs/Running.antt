@@ -1,7 +1,8 @@
 -- What a session under a guard makes of a stream.
 use Rattle.std.specs.Prelude.{◌≡◌, ◌≤◌, ℕ, List, [], ◌∷◌, Option}
 use Rattle.std.specs.List.{AllByRecursion}
-use Rattle.mp_guard.specs.Bursts.{ComeToRest, bounds_of}
+use Rattle.mp_guard.specs.Bursts.{ComeToRest, bounds_of, waits_of}
+use Rattle.mp_guarded.specs.Waits.{KeepsWaits}
 use Rattle.mp_model.specs.Guard.{Guard}
 use Rattle.mp_model.specs.GuardedChoice.{GuardedState, guarded_advance, guarded_opening, guarded_run, guarded_stages}
 use Rattle.mp_model.specs.Log.{end_line, period_line}
@@ -47,10 +48,11 @@ pub record HoldsBounds (s : Guarded) : Type 0 where
   pub rests : ComeToRest s.net s.guard
   pub are : s.bounds ≡ bounds_of s.net s.guard rests.surpluses rests.bursts
 
--- A session under a guard stands at its opening, behind no line, and holds its bounds.
+-- A session under a guard stands at its opening, behind no line, holds its bounds, and has the waits of its guard.
 pub record IsAtOpening (s : Guarded) : Type 0 where
   pub behind : StandsBehind s []
   pub bounds : HoldsBounds s
+  pub waits : s.waits ≡ waits_of s.net s.guard
 
 -- A session under a guard keeps all but where its run stands, its accounts and the stages of the last closed period.
 abbrev pub kept_of : Guarded → Guarded
@@ -63,3 +65,7 @@ EndsAs net guard head how whole left was now = stream.EndsAs (guarded_course net
 -- Each queue of each state of the guarded run over these arrivals is at most its bound.
 abbrev pub GuardStaysWithin : Network → Guard → List ℕ → List (List ℕ) → Type 0
 GuardStaysWithin net guard bounds A = AllByRecursion (λ now. AllByRecursion (λ k. queue now.state k ≤ entry bounds k) (movement_numbers net)) (guarded_run net guard A)
+
+-- In the guarded run over these arrivals no movement with somebody waiting is without green longer than its wait.
+abbrev pub GuardKeepsWaits : Network → Guard → List ℕ → List (List ℕ) → Type 0
+GuardKeepsWaits net guard waits A = KeepsWaits net guard (entry waits) A

@@ -5,7 +5,7 @@ ghost use Rattle.mp_model.specs.Arrivals.{HasCounts, IsPermitted};
 ghost use Rattle.mp_model.specs.Stream.LineKind.{arrivals_line};
 ghost use Rattle.mp_model.specs.declared.limits.TheConstants.{MOST_LINES};
 ghost use Rattle.mp_stream.specs.Taking.{TakesLine};
-ghost use Rattle.mp_guard_run.specs.Running.{guarded_course, GuardStaysWithin, IsAtOpening, StandsBehind, EndsAs};
+ghost use Rattle.mp_guard_run.specs.Running.{guarded_course, GuardKeepsWaits, GuardStaysWithin, IsAtOpening, StandsBehind, EndsAs};
 
 use crate::session::GuardSession;
 use mp_edge::{Failed, Sink, Source};
@@ -102,7 +102,8 @@ impl<'a> Driven<AboveBucket> for GuardSession<'a> {
 ///
 /// The arrivals are held to the declared demand: the first period in which some link does not keep to
 /// its bucket ends the run at its line, which is not closed and puts nothing. So in every line of a
-/// period each queue is at most its bound.
+/// period each queue is at most its bound. No movement with somebody waiting is without green longer
+/// than its wait, whatever arrives.
 ///
 /// The session is one that was just opened, and it keeps its network, guard, bounds and waits. The run
 /// takes no memory.
@@ -114,6 +115,7 @@ pub fn run_guarded<In: Source, Out: Sink>(
     requires opening { IsAtOpening session.old }
     ensures ends { EndsAs session.old.net session.old.guard [] result (In.left input.old) (In.left input.new) (Out.held out.old) (Out.held out.new) }
     ensures bounded { (A : List (List ℕ)) → IsPermitted session.old.net A → GuardStaysWithin session.old.net session.old.guard session.old.bounds A }
+    ensures waits { (A : List (List ℕ)) → GuardKeepsWaits session.old.net session.old.guard session.old.waits A }
     ensures same { session.new ≡ record session.old { at = session.new.at; accounts = session.new.accounts; stages = session.new.stages } }
     ensures in_later { In.faults input.old ≤ In.faults input.new }
     ensures out_later { Out.faults out.old ≤ Out.faults out.new }

@@ -1,31 +1,24 @@
 -- Under a guard the lights serve its demand, whatever candidates are chosen by whatever counts.
-use Rattle.std.proofs.Common.{◌≡◌, ℕ, ◌+◌, ◌*◌, ◌≤◌, ◌<◌, true, List, length, arith, ⊎_elim}
+use Rattle.std.proofs.Common.{◌≡◌, ℕ, ◌+◌, ◌*◌, ◌≤◌, ◌<◌, true, List, arith, ⊎_elim}
 use Rattle.std.proofs.lemmas.Bool.{cases_lt}
 use Rattle.std.specs.List.{AllByRecursion}
 use Rattle.mp_laws.proofs.Lists.{at_in, each_in}
-use Rattle.mp_model.specs.Guard.{Guard, Guards, GuardedServeRule, CarryBursts, Holds, FlowRule, GreensFit, demand_of, guarded_rate, greens_at, red}
-use Rattle.mp_model.specs.GuardedRun.{Play, IsCandidate, account_of, stage_of, green_in, guarded_state, lights_of}
+use Rattle.mp_model.specs.Guard.{Guard, Guards, GuardedServeRule, CarryBursts, Holds, FlowRule, demand_of, guarded_rate, greens_at, red}
+use Rattle.mp_model.specs.GuardedRun.{Play, stage_of, green_in, guarded_state, lights_of}
 use Rattle.mp_model.specs.Lights.{IsWaiting, ServeDemand, ServesRate, greens_in}
-use Rattle.mp_model.specs.Network.{Network, movement_numbers, junction_numbers, junction_at, junction_of_movement, flow_of, has, entry}
+use Rattle.mp_model.specs.Network.{Network, movement_numbers, junction_at, junction_of_movement, flow_of, has, entry}
 use Rattle.mp_model.specs.NetworkRules.{IsNetwork}
 use Rattle.mp_model.specs.Step.{queue}
 use Rattle.mp_served.specs.Bounds.{total, passes_at}
 use Rattle.mp_served.proofs.Bounds.{passing_bounded, queues_bounded}
 use Rattle.mp_served.proofs.Flows.{queue_at}
-use Rattle.mp_guarded.specs.Greens.{KeepsGreens, IsCounted}
+use Rattle.mp_guarded.specs.Greens.{IsCounted}
 use Rattle.mp_guarded.specs.Bounds.{IsGuarded}
 use Rattle.mp_guarded.proofs.Greens.{greens_hold}
+use Rattle.mp_guarded.proofs.Plays.{greens_kept}
 use Rattle.mp_served.proofs.Places.{junction_in}
 
 module _ (net : Network) (ok : IsNetwork net) (guard : Guard) (guards : Guards net guard) (play : Play) (T : ℕ) (guarded : IsGuarded net guard play T) where
-  keeps_greens : (j : ℕ) → has (junction_numbers net) j ≡ true → KeepsGreens guard (greens_at guard j) (junction_at net j) play.counts (stage_of play j) T
-  keeps_greens j in' = record {
-    some = guards.cycle.0;
-    one_each = at_in (λ j. length (greens_at guard j) ≡ length (junction_at net j).stages) j (junction_numbers net) in' guards.lengths.greens;
-    fit = at_in (λ j. GreensFit guard (greens_at guard j)) j (junction_numbers net) in' guards.masses;
-    candidates = λ t lt. at_in (λ j. IsCandidate guard (junction_at net j) (play.counts t) t (account_of net guard play j t) (stage_of play j t)) j (junction_numbers net) in' (guarded.keeps t lt).candidates;
-  }
-
   -- who waits is counted
   counted : (k a n : ℕ) → has (movement_numbers net) k ≡ true → a + n ≤ T → IsWaiting (queue_at net ok (lights_of net guard play) k) a n → IsCounted play.counts k a n
   counted k a n in' le waits u low high = ⊎_elim
@@ -42,7 +35,7 @@ module _ (net : Network) (ok : IsNetwork net) (guard : Guard) (guards : Guards n
       let j = junction_of_movement net k in
       let low : guarded_rate guard k ≤ flow_of net k * guard.denominator = at_in (FlowRule net guard) k (movement_numbers net) in' guards.flows in
       let serve = at_in (GuardedServeRule net guard) k (movement_numbers net) in' guards.serves in
-      let held = greens_hold guard (greens_at guard j) (junction_at net j) play.counts (stage_of play j) T (keeps_greens j (junction_in net ok k in')) k a n le (counted k a n in' le waits)
+      let held = greens_hold guard (greens_at guard j) (junction_at net j) play.counts (stage_of play j) T (greens_kept net guard guards play T (λ t lt. (guarded.keeps t lt).candidates) j (junction_in net ok k in')) k a n le (counted k a n in' le waits)
       (guarded_rate guard k) (guard.denominator * flow_of net k) (omega arith) serve.serves in
       omega (arith, held)
 

@@ -1,13 +1,15 @@
 -- The worked guard.
-use Rattle.std.proofs.Common.{◌≡◌, ℕ, ◌+◌, ◌*◌, ◌≤◌, ◌<◌, [], ◌∷◌, refl, arith, ap, lit≤, zero-le}
+use Rattle.std.proofs.Common.{◌≡◌, ℕ, ◌+◌, ◌*◌, ◌≤◌, ◌<◌, List, [], ◌∷◌, take, drop, refl, arith, ap, lit≤, zero-le}
+use Rattle.std.proofs.lemmas.Bool.{false≢true}
 use Rattle.mp_laws.proofs.Cases.{two_network}
 use Rattle.mp_laws.proofs.Lists.{at_range}
 use Rattle.mp_laws.proofs.Windows.{keeps_to}
+use Rattle.mp_model.specs.GuardedChoice.{GuardedState, guarded_run}
 use Rattle.mp_model.specs.GuardedRun.{KeepsGuard, IsCandidate, account_of, stage_of}
 use Rattle.mp_model.specs.Network.{junction_at, from_of, share_of}
 use Rattle.mp_model.specs.Step.{joined}
 use Rattle.mp_model.specs.Worked.{two_approaches}
-use Rattle.mp_guarded.specs.Cases.{two_guard, miscounted_play, unseen_play, MiscountedCase, UnseenCase}
+use Rattle.mp_guarded.specs.Cases.{two_guard, miscounted_play, unseen_play, crowded_approaches, crowd_arrivals, MiscountedCase, UnseenCase, LongestWaitCase}
 use Rattle.mp_served.specs.Surplus.{HasRoundSurplus}
 use Rattle.mp_served.proofs.Surplus.{surpluses}
 
@@ -124,4 +126,32 @@ unseen_case = record {
   };
   candidates = λ t lt. (unseen_at t lt, tt);
   above = refl;
+}
+
+-- the one at the first approach waits for the crowd at the second
+abbrev crowd_states : List GuardedState
+crowd_states = guarded_run crowded_approaches two_guard crowd_arrivals
+
+pub longest_wait_case : LongestWaitCase
+longest_wait_case = record {
+  guards = record {
+    lengths = record { rates = refl; junctions = refl; greens = (refl, tt) };
+    cycle = (lit≤ tt, lit≤ tt);
+    lost = lit≤ tt;
+    denominator = (lit≤ tt, lit≤ tt);
+    flows = (lit≤ tt, (lit≤ tt, tt));
+    greens = ((lit≤ tt, (lit≤ tt, tt)), tt);
+    masses = (lit≤ tt, tt);
+    balances = (lit≤ tt, (lit≤ tt, tt));
+    serves = (record { some = lit≤ tt; serves = lit≤ tt }, (record { some = lit≤ tt; serves = lit≤ tt }, tt));
+  };
+  permitted = record {
+    counts = (refl, (refl, (refl, (refl, (refl, (refl, (refl, tt)))))));
+    windows = (
+      keeps_to 4 2 1 (1 ∷ 0 ∷ 0 ∷ 0 ∷ 0 ∷ 0 ∷ 0 ∷ []) (lit≤ tt, (lit≤ tt, (lit≤ tt, (lit≤ tt, (lit≤ tt, (lit≤ tt, (lit≤ tt, tt))))))),
+      (keeps_to 4 14 1 (14 ∷ 0 ∷ 0 ∷ 0 ∷ 0 ∷ 0 ∷ 0 ∷ []) (lit≤ tt, (lit≤ tt, (lit≤ tt, (lit≤ tt, (lit≤ tt, (lit≤ tt, (lit≤ tt, tt))))))), tt),
+    );
+  };
+  wait = refl;
+  longest = λ served. false≢true (served (take 1 crowd_states) (take 6 (drop 1 crowd_states)) (drop 7 crowd_states) refl refl (lit≤ tt, (lit≤ tt, (lit≤ tt, (lit≤ tt, (lit≤ tt, (lit≤ tt, tt)))))));
 }

@@ -1,7 +1,9 @@
 pub mod Owed
 pub mod Greens
+pub mod Plays
 pub mod Candidates
 pub mod Bounds
 pub mod Runs
+pub mod Waits
 pub mod Sweeps
 pub mod Cases

@@ -7,7 +7,7 @@ use Rattle.mp_laws.proofs.FirstGreatest.{first_in}
 use Rattle.mp_laws.proofs.Lists.{at_in, each_in, filter_has, filter_sub, has_filter, in_numbers, numbered}
 use Rattle.mp_laws.proofs.Sums.{sum_by-same_at}
 use Rattle.mp_model.specs.Arrivals.{arrivals_of, IsPermitted}
-use Rattle.mp_model.specs.Guard.{Guard, Guards, GreensFit, CarryBursts, Holds, greens_at, red}
+use Rattle.mp_model.specs.Guard.{Guard, Guards, CarryBursts, Holds, greens_at, red}
 use Rattle.mp_model.specs.GuardedChoice.{GuardedState, account_in, candidates_in, guarded_advance, guarded_opening, guarded_run, guarded_run_from, guarded_stage, guarded_stages, is_candidate, kept_or, next_account, no_account, passes_under}
 use Rattle.mp_model.specs.GuardedRun.{Account, IsCandidate, KeepsGuard, Play, account_of, guarded_state, lights_of, is_green, needed_in, owed_in, paid, stage_of}
 use Rattle.mp_model.specs.Lights.{lit_pass}
@@ -16,10 +16,10 @@ use Rattle.mp_model.specs.NetworkRules.{IsNetwork}
 use Rattle.mp_model.specs.Pressure.{pressure}
 use Rattle.mp_model.specs.Split.{first_greatest}
 use Rattle.mp_model.specs.Step.{State, got_by, new_queue, departing_by, queue, received_by, step_by}
-use Rattle.mp_guarded.specs.Greens.{KeepsGreens}
 use Rattle.mp_guarded.specs.Runs.{TakesCandidates, IsBounded}
 use Rattle.mp_guarded.proofs.Bounds.{queues_guarded}
 use Rattle.mp_guarded.proofs.Candidates.{before_in, candidate_there}
+use Rattle.mp_guarded.proofs.Plays.{greens_kept}
 use Rattle.mp_served.proofs.Rows.{from_none, listed}
 use Rattle.mp_served.proofs.Places.{at_place, junction_in, range_has}
 
@@ -100,11 +100,11 @@ module _ (net : Network) (p p' arrivals : ℕ → ℕ) (state : State) (same : (
 
 -- ---- the run, by its arrivals in each period
 module _ (net : Network) (ok : IsNetwork net) (guard : Guard) (guards : Guards net guard) (arrivals : ℕ → List ℕ) where
-  run_at : ℕ → GuardedState
+  unfoldable pub run_at : ℕ → GuardedState
   run_at zero = guarded_opening net guard
   run_at (suc t) = guarded_advance net guard (arrivals t) (run_at t)
 
-  abbrev play : Play
+  abbrev pub play : Play
   play = record { arrivals = arrivals; counts = λ t. queue (run_at t).state; stages = λ t. guarded_stages net guard (queue (run_at t).state) (run_at t) }
 
   period_is : (t : ℕ) → (run_at t).state.period ≡ t
@@ -115,7 +115,7 @@ module _ (net : Network) (ok : IsNetwork net) (guard : Guard) (guards : Guards n
   account_read : (f : ℕ → Account) (j : ℕ) → has (junction_numbers net) j ≡ true → get_or (map f (junction_numbers net)) (j - 1) no_account ≡ f j
   account_read f j in' = let i = in_numbers (length net.junctions) j in' in get_or-map-range_with_len f 1 (length net.junctions) (j - 1) j no_account (omega (arith, i)) (omega (arith, i))
 
-  account_is : (t j : ℕ) → has (junction_numbers net) j ≡ true → account_in (run_at t) j ≡ account_of net guard play j t
+  pub account_is : (t j : ℕ) → has (junction_numbers net) j ≡ true → account_in (run_at t) j ≡ account_of net guard play j t
   unfolding run_at
   account_is zero j in' = account_read (λ j. record { owed = greens_at guard j; before = None }) j in'
   account_is (suc t) j in' =
@@ -134,21 +134,13 @@ module _ (net : Network) (ok : IsNetwork net) (guard : Guard) (guards : Guards n
       ∙ ap (λ state. step_by net (lit_pass net (lights_of net guard play) t (queue state)) (arrivals_of net (arrivals t)) state) (state_is t)
 
   -- ---- the junctions keep to the guard
-  greens_until : (t : ℕ) → ((u : ℕ) → u < t → KeepsGuard net guard play u) → (j : ℕ) → has (junction_numbers net) j ≡ true → KeepsGreens guard (greens_at guard j) (junction_at net j) play.counts (stage_of play j) t
-  greens_until t keeps j in' = record {
-    some = guards.cycle.0;
-    one_each = at_in (λ j. length (greens_at guard j) ≡ length (junction_at net j).stages) j (junction_numbers net) in' guards.lengths.greens;
-    fit = at_in (λ j. GreensFit guard (greens_at guard j)) j (junction_numbers net) in' guards.masses;
-    candidates = λ u lt. at_in (λ j. IsCandidate guard (junction_at net j) (play.counts u) u (account_of net guard play j u) (stage_of play j u)) j (junction_numbers net) in' (keeps u lt).candidates;
-  }
-
   has_stages : (j : ℕ) → has (junction_numbers net) j ≡ true → 1 ≤ length (junction_at net j).stages
   has_stages j in' = let i = in_numbers (length net.junctions) j in' in at_place (λ j. 1 ≤ length j.stages) no_junction net.junctions (j - 1) (omega (arith, i)) ok.some_stage
 
   takes : (t : ℕ) → ((u : ℕ) → u < t → KeepsGuard net guard play u) → (j : ℕ) → has (junction_numbers net) j ≡ true →
       IsCandidate guard (junction_at net j) (play.counts t) t (account_of net guard play j t) (guarded_stage net guard (junction_at net j) (play.counts t) t (account_of net guard play j t))
   takes t keeps j in' =
-      let greens = greens_until t keeps j in' in
+      let greens = greens_kept net guard guards play t (λ u lt. (keeps u lt).candidates) j in' in
       let there = (candidate_there guard (greens_at guard j) (junction_at net j) play.counts (stage_of play j) t greens (has_stages j in')).some in
       taken_is net guard (junction_at net j) (play.counts t) t (account_of net guard play j t) (before_in guard (greens_at guard j) (junction_at net j) play.counts (stage_of play j) t greens) there.0 there.1
 
@@ -164,7 +156,7 @@ module _ (net : Network) (ok : IsNetwork net) (guard : Guard) (guards : Guards n
     zeros = each_in (λ k. play.counts t k ≡ 0 → queue (guarded_state net guard play t) k ≡ 0) (movement_numbers net) (λ k in' none. ap (λ state. queue state k) (sym (state_is t)) ∙ none);
   }
 
-  keeps_until : (t u : ℕ) → u < t → KeepsGuard net guard play u
+  pub keeps_until : (t u : ℕ) → u < t → KeepsGuard net guard play u
   keeps_until zero u lt = absurd (omega arith)
   keeps_until (suc t) u lt = ⊎_elim
       (λ (earlier : u < t). keeps_until t u earlier)

@@ -1,4 +1,5 @@
 pub mod Greens
+pub mod Waits
 pub mod Candidates
 pub mod Bounds
 pub mod Runs

@@ -3,10 +3,11 @@
 
 ghost use Rattle.mp_guarded.specs.Bounds.{GuardedBoundLaw, GuardedPassingLaw};
 ghost use Rattle.mp_guarded.specs.Candidates.{CandidateLaw};
-ghost use Rattle.mp_guarded.specs.Cases.{MiscountedCase, UnseenCase};
+ghost use Rattle.mp_guarded.specs.Cases.{LongestWaitCase, MiscountedCase, UnseenCase};
 ghost use Rattle.mp_guarded.specs.Greens.{GreensLaw, WaitLaw};
 ghost use Rattle.mp_guarded.specs.Runs.{GuardedRunLaw, GuardedStagesLaw};
 ghost use Rattle.mp_guarded.specs.Sweeps.{SweepsLaw};
+ghost use Rattle.mp_guarded.specs.Waits.{GuardedWaitLaw, PlayWaitLaw};
 
 /// However a cycle is cut, a movement with somebody waiting gets the greens that it is given, less
 /// those of the two parts that are cut off.
@@ -17,6 +18,11 @@ pub fn greens_law()
 /// Nobody waits longer than twice the periods of a cycle that the movement is not given.
 pub fn wait_law()
     ensures { WaitLaw }
+{}
+
+/// So one of `wait + 1` periods in each of which somebody of a movement is counted is green, by any counts.
+pub fn play_wait_law()
+    ensures { PlayWaitLaw }
 {}
 
 /// What a junction needs is never more than what is left of the cycle, so a candidate is always there.
@@ -46,6 +52,12 @@ pub fn guarded_run_law()
     ensures { GuardedRunLaw }
 {}
 
+/// In that run no movement with somebody waiting is without green longer than its wait, over any
+/// arrivals.
+pub fn guarded_wait_law()
+    ensures { GuardedWaitLaw }
+{}
+
 /// Where sweeps from a list of zeros have come to rest, the bursts are the least that carry those
 /// before them, and the printed bounds the least under them.
 pub fn sweeps_law()
@@ -61,4 +73,9 @@ pub fn miscounted_case()
 /// A count of 0 must be true: where somebody waits unseen, a queue rises above that bound.
 pub fn unseen_case()
     ensures { UnseenCase }
+{}
+
+/// The longest wait occurs, so no wait can be one period less.
+pub fn longest_wait_case()
+    ensures { LongestWaitCase }
 {}

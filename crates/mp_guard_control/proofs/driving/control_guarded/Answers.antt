@@ -113,3 +113,30 @@ returns-in-Failed-clause-kept g c = c.controlled_law.ensures c.args.net.now c.sh
 
 pub returns-in-Line-clause-kept : goal.returns-in-Line-clause-kept
 returns-in-Line-clause-kept g c = c.controlled_law.ensures c.args.net.now c.shares.ensures.acceptable.network c.args.guard.now c.requires.guards
+
+pub returns-then-is_err-clause-waits : goal.returns-then-is_err-clause-waits
+returns-then-is_err-clause-waits g c = c.counted_wait_law.ensures c.args.net.now c.shares.ensures.acceptable.network c.args.guard.now c.requires.guards
+
+pub returns-in-Bad-clause-waits : goal.returns-in-Bad-clause-waits
+returns-in-Bad-clause-waits g c = c.counted_wait_law.ensures c.args.net.now c.shares.ensures.acceptable.network c.args.guard.now c.requires.guards
+
+pub returns-in-TooLong-clause-waits : goal.returns-in-TooLong-clause-waits
+returns-in-TooLong-clause-waits g c = c.counted_wait_law.ensures c.args.net.now c.shares.ensures.acceptable.network c.args.guard.now c.requires.guards
+
+pub returns-in-End-clause-waits : goal.returns-in-End-clause-waits
+returns-in-End-clause-waits g c = c.counted_wait_law.ensures c.args.net.now c.shares.ensures.acceptable.network c.args.guard.now c.requires.guards
+
+pub returns-in-Unread-clause-waits : goal.returns-in-Unread-clause-waits
+returns-in-Unread-clause-waits g c = c.counted_wait_law.ensures c.args.net.now c.shares.ensures.acceptable.network c.args.guard.now c.requires.guards
+
+pub returns-in-Unwritten-clause-waits : goal.returns-in-Unwritten-clause-waits
+returns-in-Unwritten-clause-waits g c = c.counted_wait_law.ensures c.args.net.now c.shares.ensures.acceptable.network c.args.guard.now c.requires.guards
+
+pub returns-in-End-next-clause-waits : goal.returns-in-End-next-clause-waits
+returns-in-End-next-clause-waits g c = c.counted_wait_law.ensures c.args.net.now c.shares.ensures.acceptable.network c.args.guard.now c.requires.guards
+
+pub returns-in-Failed-clause-waits : goal.returns-in-Failed-clause-waits
+returns-in-Failed-clause-waits g c = c.counted_wait_law.ensures c.args.net.now c.shares.ensures.acceptable.network c.args.guard.now c.requires.guards
+
+pub returns-in-Line-clause-waits : goal.returns-in-Line-clause-waits
+returns-in-Line-clause-waits g c = c.counted_wait_law.ensures c.args.net.now c.shares.ensures.acceptable.network c.args.guard.now c.requires.guards
