@@ -116,5 +116,4 @@ counts_keep net ok guard guards counts =
     let n = wait_of net guard k + 1 in
     let some : 1 ≤ greens_in (λ t. green_in net guard told t k) a n =
     at_in (IsGreenWhereCounted net guard told (a + n)) k (movement_numbers net) h (play_waits net ok guard guards told (a + n) (λ t lt. candidates_in net ok guard guards counts nothing t)) a (le_refl (a + n)) counted in
-    let there = same_greens (green_by net guard counts k) (λ t. green_in net guard told t k) a n (green_is net ok guard guards counts nothing k h) in
-    omega arith)
+    subst (λ m. 1 ≤ m) (sym (same_greens (green_by net guard counts k) (λ t. green_in net guard told t k) a n (green_is net ok guard guards counts nothing k h))) some)

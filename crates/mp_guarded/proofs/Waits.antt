@@ -112,15 +112,16 @@ module _ (net : Network) (ok : IsNetwork net) (guard : Guard) (guards : Guards n
 
   served : (A : List (List ℕ)) → ((i : ℕ) → i < length A → arrivals (0 + i) ≡ get_or A i []) → (k : ℕ) → has (movement_numbers net) k ≡ true → IsServedWithin net guard k (wait_of net guard k) (guarded_run_from net guard (at 0) A)
   served A same k in' before row after parts long waiting =
-      let s = length before in
+      let s : ℕ = 0 + length before in
       let wait = wait_of net guard k in
       let follows : Follows at s row = part_follows at 0 before row after (subst (Follows at 0) parts (run_follows A 0 same)) in
       let counted : IsCounted run_play.counts k s (wait + 1) = λ u low high. at_all (λ now. 1 ≤ queue now.state k) at s row follows waiting u low (omega arith) in
       let some : 1 ≤ greens_in (λ t. green_in net guard run_play t k) s (wait + 1) =
       at_in (IsGreenWhereCounted net guard run_play (s + (wait + 1))) k (movement_numbers net) in' (play_waits net ok guard guards run_play (s + (wait + 1)) (λ u lt. (keeps_until net ok guard guards arrivals (s + (wait + 1)) u lt).candidates)) s (le_refl (s + (wait + 1))) counted in
       let there = same_greens (λ t. is_green_from net guard k (at t)) (λ t. green_in net guard run_play t k) s (wait + 1) (green_is k in') in
-      let size = ap (λ n. greens_in (λ t. is_green_from net guard k (at t)) s n) long in
-      some_state (is_green_from net guard k) at s row follows (omega arith)
+      let all : 1 ≤ greens_in (λ t. is_green_from net guard k (at t)) s (length row) =
+      subst (λ n. 1 ≤ greens_in (λ t. is_green_from net guard k (at t)) s n) (sym long) (subst (λ m. 1 ≤ m) (sym there) some) in
+      some_state (is_green_from net guard k) at s row follows all
 
 pub run_waits : (net : Network) → IsNetwork net → (guard : Guard) → Guards net guard → (A : List (List ℕ)) → KeepsWaits net guard (wait_of net guard) A
 unfolding run_at
