@@ -1,6 +1,5 @@
 -- The best of some stages, one more at a time, and what a junction takes from it.
-use Rattle.std.proofs.Common.{◌≡◌, ℕ, zero, suc, ◌+◌, ◌-◌, ◌*◌, ◌<◌, ◌≤◌, Bool, true, false, cond, ◌&&◌, nat_le, nat_lt, List, [], ◌∷◌, ◌++◌, length, filter, find, Option, Some, None, ℤ, pos, int_lt, arith, refl, sym, ◌∙◌, ap, ap₂, subst}
-use Rattle.std.specs.List.{AllByRecursion, best_of, range_with_len}
+use Rattle.std.proofs.Common.{◌≡◌, ℕ, suc, ◌+◌, ◌-◌, ◌*◌, ◌<◌, ◌≤◌, Bool, true, false, cond, ◌&&◌, nat_le, nat_lt, List, [], ◌∷◌, ◌++◌, length, filter, find, Option, Some, None, ℤ, pos, int_lt, arith, refl, sym, ◌∙◌, ap, ap₂, subst}
 use Rattle.std.proofs.lemmas.Int.{ints}
 use Rattle.std.proofs.lemmas.List.{length_push}
 use Rattle.std.proofs.lemmas.List.Elements.{filter-append}
@@ -20,8 +19,7 @@ use Rattle.mp_press.specs.Presses.{press_by}
 use Rattle.mp_press.specs.Written.{IsAmong}
 use Rattle.mp_press.proofs.Known.{stage_known}
 use Rattle.mp_press.proofs.Sums.{range_more}
-use Rattle.mp_guard_run.specs.Choosing.{ArePresses, IsBest, fits_or, kept_by, pressed}
-use Rattle.mp_guard_run.specs.declared.choice.Best.{Best}
+use Rattle.mp_guard_run.specs.Choosing.{ArePresses, fits_or, kept_by, pressed}
 
 -- ---- the first of greatest key, one more at a time
 greatest_push : (key : ℕ → ℤ) (xs : List ℕ) (s : ℕ) → 1 ≤ length xs → first_greatest key (xs ++ s ∷ []) ≡ cond (int_lt (key (first_greatest key xs)) (key s)) s (first_greatest key xs)

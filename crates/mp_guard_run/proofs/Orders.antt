@@ -1,10 +1,8 @@
 -- An account in order gives a candidate, and stays in order where one is taken.
-use Rattle.std.proofs.Common.{◌≡◌, ◌==◌, ℕ, zero, suc, ◌+◌, ◌-◌, ◌*◌, ◌%◌, ◌<◌, ◌≤◌, Bool, true, false, cond, List, [], ◌∷◌, length, filter, find, set, sum, Option, Some, None, arith, refl, sym, ◌∙◌, ap, subst, ⊎_elim, mul-le-mul_left, add-one}
+use Rattle.std.proofs.Common.{◌≡◌, ℕ, suc, ◌+◌, ◌-◌, ◌%◌, ◌≤◌, true, List, [], length, filter, find, set, Option, Some, None, arith, refl, sym, ◌∙◌, ap, subst, ⊎_elim, mul-le-mul_left, add-one}
 use Rattle.std.specs.Prelude.{IfSome}
-use Rattle.std.specs.List.{AllByRecursion}
 use Rattle.std.proofs.Math.Nat.{mod-lt}
 use Rattle.std.proofs.lemmas.Bool.{le-leb, false≢true}
-use Rattle.mp_guarded.specs.Candidates.{needed_before}
 use Rattle.mp_guarded.proofs.Candidates.{candidate_of}
 use Rattle.mp_guarded.proofs.Greens.{next_place, left_over, made_new}
 use Rattle.mp_guarded.proofs.Runs.{taken_is}
@@ -12,7 +10,7 @@ use Rattle.mp_laws.proofs.Lists.{has_filter}
 use Rattle.mp_model.specs.Guard.{Guard, GreensFit, owing}
 use Rattle.mp_model.specs.GuardedChoice.{candidates_in, guarded_stage, is_candidate}
 use Rattle.mp_model.specs.GuardedRun.{Account, IsCandidate, is_idle, needed_in, owed_in, paid, paying}
-use Rattle.mp_model.specs.Network.{Network, Junction, has, numbers_to, stage_numbers, entry}
+use Rattle.mp_model.specs.Network.{Network, Junction, has, stage_numbers}
 use Rattle.mp_served.proofs.Places.{range_has}
 use Rattle.mp_guard_run.specs.Accounts.{IsInOrder}
 use Rattle.mp_guard_run.specs.Choosing.{fits_or}

@@ -1,10 +1,9 @@
 -- Sums over what stages owe, as they are added up and as one of them pays.
-use Rattle.std.proofs.Common.{◌≡◌, ◌≢◌, ℕ, zero, suc, ◌+◌, ◌-◌, ◌*◌, ◌<◌, ◌≤◌, Bool, true, false, cond, nat_lt, List, length, set, get_or, take, sum, sum_by, Option, Some, None, arith, refl, ap, ap₂, sym, ◌∙◌, ⊎_elim, mul-le-mul_left}
+use Rattle.std.proofs.Common.{◌≡◌, ◌≢◌, ℕ, ◌+◌, ◌-◌, ◌*◌, ◌<◌, ◌≤◌, cond, nat_lt, List, length, set, get_or, take, sum, sum_by, Option, Some, None, arith, refl, ap, ap₂, ◌∙◌, ⊎_elim, mul-le-mul_left}
 use Rattle.std.proofs.lemmas.Bool.{cases_lt, lt-ltb}
-use Rattle.std.specs.Prelude.{IfSome}
-use Rattle.std.proofs.lemmas.Grind.{common_steps, get_or-set_at}
+use Rattle.std.proofs.lemmas.Grind.{get_or-set_at}
 use Rattle.std.proofs.lemmas.List.{length-set, get_or-set_other}
-use Rattle.std.proofs.lemmas.List.Sums.{sum_by-set, sum_by_more, sum_by_more_le}
+use Rattle.std.proofs.lemmas.List.Sums.{sum_by-set, sum_by_more}
 use Rattle.mp_model.specs.Guard.{owing}
 use Rattle.mp_model.specs.GuardedRun.{less_by, needed_in}
 use Rattle.mp_model.specs.Network.{entry}

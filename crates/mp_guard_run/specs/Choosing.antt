@@ -1,9 +1,9 @@
 -- The choice of one junction, where the lowest idle stage and the presses are known.
 use Rattle.std.specs.Prelude.{◌≡◌, ◌≤◌, ℕ, ◌+◌, ◌*◌, ◌%◌, ◌^◌, Bool, cond, not, ◌&&◌, nat_le, nat_lt, List, [], length, sum, sum_by, Option, Some, None, pos}
-use Rattle.std.specs.List.{All, AllByRecursion}
+use Rattle.std.specs.List.{All}
 use Rattle.mp_model.specs.Guard.{Guard, owing}
 use Rattle.mp_model.specs.GuardedRun.{Account, is_change, less_by, needed_in}
-use Rattle.mp_model.specs.Network.{Network, Junction, movement_numbers, stage_at, entry}
+use Rattle.mp_model.specs.Network.{Network, Junction, stage_at, entry}
 use Rattle.mp_model.specs.Split.{first_greatest}
 use Rattle.mp_press.specs.Presses.{press_by}
 use Rattle.mp_press.specs.Written.{HasEach}

@@ -1,5 +1,5 @@
 -- What a session under a guard keeps: its guard, and a run with accounts in order.
-use Rattle.std.specs.Prelude.{◌≡◌, ℕ, List, length}
+use Rattle.std.specs.Prelude.{◌≡◌, ℕ, List}
 use Rattle.mp_model.specs.Guard.{Guard, Guards}
 use Rattle.mp_model.specs.GuardedChoice.{GuardedState}
 use Rattle.mp_model.specs.GuardedRun.{Account}

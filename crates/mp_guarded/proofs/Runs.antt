@@ -4,7 +4,7 @@ use Rattle.std.specs.List.{AllByRecursion, range_with_len, list_any}
 use Rattle.std.proofs.lemmas.Bool.{cases_lt, le-leb, leb-true, false≢true, or_left, or_right, or_cases}
 use Rattle.std.proofs.lemmas.List.FromFn.{get_or-map-range_with_len}
 use Rattle.mp_laws.proofs.FirstGreatest.{first_in}
-use Rattle.mp_laws.proofs.Lists.{at_in, each_in, filter_has, filter_sub, has_filter, in_numbers, numbered}
+use Rattle.mp_laws.proofs.Lists.{each_in, filter_has, filter_sub, has_filter, in_numbers, numbered}
 use Rattle.mp_laws.proofs.Sums.{sum_by-same_at}
 use Rattle.mp_model.specs.Arrivals.{arrivals_of, IsPermitted}
 use Rattle.mp_model.specs.Guard.{Guard, Guards, CarryBursts, Holds, greens_at, red}

@@ -1,4 +1,4 @@
-use Rattle.std.proofs.Common.{◌≡◌, ◌+◌, ◌∙◌, ℕ, Bool, true, List, Option, Some, filter, subst, sym}
+use Rattle.std.proofs.Common.{◌+◌, ◌∙◌, ℕ, Bool, List, Option, Some, filter, subst, sym}
 use Rattle.mp_model.specs.Network.{junction_at, numbers_to}
 use Rattle.mp_guard_run.specs.Choosing.{IsBest, fits_or, pressed}
 use Rattle.mp_guard_run.specs.declared.choice.Best.{Best}

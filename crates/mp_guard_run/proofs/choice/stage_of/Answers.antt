@@ -1,7 +1,6 @@
-use Rattle.std.proofs.Common.{◌≡◌, ◌∙◌, ℕ, [], List, Option, None, Some, ap, filter, find, pos, subst, sym}
+use Rattle.std.proofs.Common.{◌≡◌, ◌∙◌, ℕ, [], Option, Some, ap, filter, find, subst, sym}
 use Rattle.mp_model.specs.GuardedRun.{IsCandidate, is_idle}
 use Rattle.mp_model.specs.Network.{Junction, junction_at, stage_numbers, entry}
-use Rattle.mp_model.specs.Split.{first_greatest}
 use Rattle.mp_press.specs.Queues.{naturals}
 use Rattle.mp_press.proofs.Known.{some_stage}
 use Rattle.mp_guard_run.specs.Choosing.{IsBest, fits_or, pressed}

@@ -1,8 +1,5 @@
-use Rattle.std.proofs.Common.{◌≡◌, ◌-◌, ◌*◌, ◌∙◌, ap, ap₂, arith}
-use Rattle.mp_model.specs.Network.{entry, flow_of}
-use Rattle.mp_press.specs.Queues.{naturals}
-use Rattle.mp_press.proofs.Known.{flow_few}
-use Rattle.mp_press.proofs.Sums.{few_at, press_fits, product_fits}
+use Rattle.std.proofs.Common.{◌-◌, arith}
+use Rattle.mp_press.proofs.Sums.{few_at, product_fits}
 use Rattle.mp_guard_run.proofs.pressing.press.Goals as goal
 
 pub overflow_mul-queued : goal.overflow_mul-queued

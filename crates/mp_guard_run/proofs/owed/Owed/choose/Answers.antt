@@ -1,8 +1,8 @@
-use Rattle.std.proofs.Common.{◌≡◌, ◌+◌, ◌-◌, ◌∙◌, ℕ, [], ◌∷◌, ◌++◌, List, ap, ap₂, arith, get_or, length, map, subst, sym}
+use Rattle.std.proofs.Common.{◌≡◌, ◌+◌, ◌∙◌, ℕ, [], ◌∷◌, ◌++◌, List, ap, ap₂, arith, length, map, subst, sym}
 use Rattle.std.proofs.lemmas.List.{length_push}
 use Rattle.std.proofs.lemmas.List.FromFn.{map-range_with_len_more}
 use Rattle.mp_laws.proofs.Lists.{each_in, in_numbers, numbered}
-use Rattle.mp_model.specs.GuardedChoice.{guarded_stage, no_account}
+use Rattle.mp_model.specs.GuardedChoice.{guarded_stage}
 use Rattle.mp_model.specs.GuardedRun.{Account, IsCandidate}
 use Rattle.mp_model.specs.Network.{junction_at, junction_numbers, numbers_to, entry}
 use Rattle.mp_press.specs.Queues.{naturals}

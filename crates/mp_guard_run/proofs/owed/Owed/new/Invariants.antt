@@ -1,6 +1,5 @@
-use Rattle.std.proofs.Common.{◌≡◌, ℕ, List, None, map}
+use Rattle.std.proofs.Common.{◌≡◌, None, map}
 use Rattle.mp_model.specs.Guard.{greens_at}
-use Rattle.mp_model.specs.GuardedRun.{Account}
 use Rattle.mp_model.specs.Network.{numbers_to}
 use Rattle.mp_guard_run.proofs.owed.Owed.new.Given as goal
 

@@ -1,4 +1,4 @@
-use Rattle.std.proofs.Common.{◌≡◌, ◌+◌, ◌∙◌, ℕ, List, ap, arith, length, subst, sym}
+use Rattle.std.proofs.Common.{◌≡◌, ◌+◌, ◌∙◌, ℕ, List, ap, subst, sym}
 use Rattle.std.proofs.lemmas.List.{with_items_is}
 use Rattle.mp_model.specs.GuardedRun.{Account}
 use Rattle.mp_model.specs.Network.{entry}

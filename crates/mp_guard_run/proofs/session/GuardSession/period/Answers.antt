@@ -1,8 +1,7 @@
-use Rattle.std.proofs.Common.{◌≡◌, ◌∙◌, ℕ, Bool, List, ap, subst, sym}
+use Rattle.std.proofs.Common.{◌≡◌, ◌∙◌, ℕ, Bool, List, ap, subst}
 use Rattle.std.proofs.lemmas.List.{with_items_is}
 use Rattle.mp_model.specs.Arrivals.{arrivals_of}
 use Rattle.mp_model.specs.GuardedChoice.{GuardedState, guarded_advance}
-use Rattle.mp_model.specs.GuardedRun.{Account}
 use Rattle.mp_model.specs.Network.{entry}
 use Rattle.mp_model.specs.Step.{State}
 use Rattle.mp_press.specs.Queues.{naturals}
