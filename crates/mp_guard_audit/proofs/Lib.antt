@@ -1,0 +1,4 @@
+pub mod HeadingLemmas
+pub mod LogLemmas
+pub mod LineLemmas
+pub mod DifferLemmas

@@ -1,0 +1,3 @@
+pub mod GuardedLog
+pub mod Heading
+pub mod Auditing
