@@ -19,22 +19,28 @@ use Rattle.mp_cert.specs.TextMeaning.{cert_meaning, vector_meaning}
 use Rattle.mp_frame.specs.FrameNet.{frame_fault}
 use Rattle.mp_flow.specs.declared.network.Place.TheVariants as at
 use Rattle.mp_gen.specs.DemoNetwork.{demo_network}
-use Rattle.mp_guard.specs.Bursts.{ComeToRest}
+use Rattle.mp_guard.specs.Bursts.{ComeToRest, bounds_of, waits_of}
+use Rattle.mp_guard.specs.GuardHeader.{guard_header}
+use Rattle.mp_guard_audit.specs.Auditing.{AuditsGuarded}
+use Rattle.mp_guard_audit.specs.GuardedLog.{GuardedDiffersAt}
 use Rattle.mp_netfile.specs.Meaning.{file_meaning}
 use Rattle.mp_frame_run.specs.Running.{framed_course}
 use Rattle.mp_guard_run.specs.Running.{guarded_after, guarded_course, guarded_lines_from}
 use Rattle.mp_model.specs.GuardedChoice.{guarded_opening}
 use Rattle.mp_plan_run.specs.Running.{plan_course}
+use Rattle.mp_run.specs.Auditing.{AuditsAs}
+use Rattle.mp_run.specs.declared.auditing.AuditEnd.{AuditEnd}
+use Rattle.mp_run.specs.declared.auditing.AuditEnd.TheVariants as ended
 use Rattle.mp_run.specs.declared.run.RunEnd.{RunEnd}
 use Rattle.mp_trial.specs.Search.{scaled, Found}
 use Rattle.mp_cli.specs.declared.outcome.FileRole.TheVariants as file
 use Rattle.mp_cli.specs.declared.outcome.TextKind.{TextKind}
 use Rattle.mp_cli.specs.declared.outcome.Outcome.{Outcome}
 use Rattle.mp_cli.specs.declared.outcome.Outcome.TheVariants.{Done, Store, Network as BadNetwork, LongText, Text, Admitted, Critical, Overloaded, Certificate, BrokenGuard, ZeroVector, WeakVector, NoCertificate, Overflow, GrowthOverflow, PivotLimit, SweepLimit, Uneven, LongFrames, FastFrames, CyclicPlan, FullPlan, PlanOverflow, NoGuard, FullGuard, BurstLimit, Differs, Read, Write, NoMemory}
-use Rattle.mp_cli.specs.Auditing.{audit_line, Compares}
+use Rattle.mp_cli.specs.Auditing.{audit_line, EndsAudit}
 use Rattle.mp_cli.specs.Checking.{RefusesCert}
-use Rattle.mp_cli.specs.Commands.{Command, Run, RunWith, Show, Certify, Check, Refute, Audit, AuditWith, Control, Demo, Scale, Overload, Frames, Plan, Guard, ControlGuard, RunGuard, Unknown}
-use Rattle.mp_cli.specs.Complete.{IsGoodFile, IsGoodText, IsGoodStream, IsExcessiveStream, IsGoodLog, IsRunnableCert, IsGoodVector, IsAdmittable, IsGrowing, IsRunnableFramesCert, IsPlannable, IsGuardable, CanRun, IsGood, IsExcessive}
+use Rattle.mp_cli.specs.Commands.{Command, Run, RunWith, Show, Certify, Check, Refute, Audit, AuditWith, Control, Demo, Scale, Overload, Frames, Plan, Guard, ControlGuard, RunGuard, AuditGuard, Unknown}
+use Rattle.mp_cli.specs.Complete.{IsGoodFile, IsGoodText, IsGoodStream, IsExcessiveStream, IsGoodLog, IsGoodGuardedLog, IsRunnableCert, IsGoodVector, IsAdmittable, IsGrowing, IsRunnableFramesCert, IsPlannable, IsGuardable, CanRun, IsGood, IsExcessive}
 use Rattle.mp_cli.specs.Ends.{Means}
 use Rattle.mp_cli.specs.Opening.{Reads, RefusesNetwork, RefusesText}
 use Rattle.mp_cli.specs.Ports.{Files, Ports, IsUntouched, Writes}
@@ -281,13 +287,24 @@ run_ends n command P outcome ports quiet good means stream = absurd good
 good_run : (command : Command) (outcome : Outcome) (ports : Ports) → IsQuiet outcome → CanRun command ports.files (λ n. IsGoodStream n ports.input_before) → Means command outcome ports → EndsIn 0 outcome
 good_run command outcome ports quiet good means = run_ends 0 command (λ n. IsGoodStream n ports.input_before) outcome ports quiet good means (λ n stream ends. inl (good_stream n ports.input_before ports.input_after outcome quiet.read quiet.write stream ends))
 
+-- an audit of a log that does not differ ends with a whole log
+audited : (outcome : Outcome) (ports : Ports) (EndsSo : AuditEnd → Type 0) → IsQuiet outcome → ((n : ℕ) → EndsSo (ended.Differs n) → ⊥) → EndsAudit outcome ports EndsSo → EndsIn 0 outcome
+audited (Differs n) ports EndsSo quiet never ends = absurd (never n ends.0)
+audited Read ports EndsSo quiet never ends = absurd (quiet.read refl)
+audited outcome ports EndsSo quiet never ends = written_done outcome ports (audit_line ends.periods) quiet ends.written
+
 -- a whole log does not differ
-compared : (outcome : Outcome) (net : Network) (ports : Ports) (P : ℕ → ℕ → Type 0) (num den : ℕ) (bounds : List ℕ) → IsQuiet outcome → IsGoodLog net P ports.input_before → P num den → AreBounds net num den bounds → Compares outcome net ports num den bounds → EndsIn 0 outcome
-compared (Differs n) net ports P num den bounds quiet log is are compares =
-    let told = subst (λ (l : Option (List ℕ)). Tells l ports.input_after (λ text now. DiffersAt net num den bounds text n)) log.told compares.0 in
+no_difference : (net : Network) (P : ℕ → ℕ → Type 0) (num den : ℕ) (bounds : List ℕ) (left rest : Option (List ℕ)) → IsGoodLog net P left → P num den → AreBounds net num den bounds → (n : ℕ) → AuditsAs net num den bounds (ended.Differs n) left rest → ⊥
+no_difference net P num den bounds left rest log is are n differs =
+    let told = subst (λ (l : Option (List ℕ)). Tells l rest (λ text now. DiffersAt net num den bounds text n)) log.told differs in
     absurd (told.2.not_whole (log.whole num den bounds is are))
-compared Read net ports P num den bounds quiet log is are compares = absurd (quiet.read refl)
-compared outcome net ports P num den bounds quiet log is are compares = written_done outcome ports (audit_line compares.periods) quiet compares.written
+
+no_guarded_difference : (net : Network) (guard : model.Guard) (left rest : Option (List ℕ)) → IsGoodGuardedLog net guard left → (come : ComeToRest net guard) (n : ℕ)
+    → AuditsGuarded net guard (guard_header net guard (bounds_of net guard come.surpluses come.bursts) (waits_of net guard)) (ended.Differs n) left rest → ⊥
+no_guarded_difference net guard left rest log come n differs =
+    let header = guard_header net guard (bounds_of net guard come.surpluses come.bursts) (waits_of net guard) in
+    let told = subst (λ (l : Option (List ℕ)). Tells l rest (λ text now. GuardedDiffersAt net guard header text n)) log.told differs in
+    absurd (told.2.not_whole (log.whole come))
 
 pub completes : (command : Command) (outcome : Outcome) (ports : Ports) → IsQuiet outcome → IsGood command ports.files ports.input_before → Means command outcome ports → EndsIn 0 outcome
 completes (Run net) outcome ports quiet good means = good_run (Run net) outcome ports quiet good means
@@ -316,7 +333,7 @@ completes (Audit net) outcome ports quiet good means =
     goes 0 outcome on.1 (verdict_memory outcome good.value good.is.0.admitted) (λ admitted.
     goes 0 outcome (of_admitted good.value _ good.is.0.admitted admitted) (opening_memory outcome good.value good.is.0.admitted.cert good.is.0.under) (λ opens.
     let under = opens.holds.holds in
-    compared outcome good.value ports (IsGreatestSlack good.value) opens.holds.num opens.holds.den under.bounds quiet good.is.1 under.is.0 under.are under.is.1)))
+    audited outcome ports _ quiet (no_difference good.value (IsGreatestSlack good.value) opens.holds.num opens.holds.den under.bounds ports.input_before ports.input_after good.is.1 under.is.0 under.are) under.is.1)))
 completes (AuditWith net cert) outcome ports quiet good means =
     goes 0 outcome means (network_memory outcome ports.files net _ quiet good) (λ reads.
     let on = of_good file_meaning ports.files net _ _ good reads in
@@ -324,7 +341,7 @@ completes (AuditWith net cert) outcome ports quiet good means =
     goes 0 outcome on.1 (text_memory outcome _ (cert_meaning good.value) ports.files cert _ quiet good.is) (λ read.
     goes 0 outcome (of_good (cert_meaning good.value) ports.files cert _ _ given read) (session_memory outcome good.value given.value given.is.0) (λ opens.
     let under = opens.holds.holds in
-    compared outcome good.value ports (IsSlack given.value) opens.holds.num opens.holds.den under.bounds quiet given.is.1 opens.holds.slack under.are under.is)))
+    audited outcome ports _ quiet (no_difference good.value (IsSlack given.value) opens.holds.num opens.holds.den under.bounds ports.input_before ports.input_after given.is.1 opens.holds.slack under.are) under.is)))
 completes (Control net) outcome ports quiet good means =
     goes 0 outcome means (network_memory outcome ports.files net _ quiet good) (λ reads.
     let on = of_good file_meaning ports.files net _ _ good reads in
@@ -357,6 +374,14 @@ completes (ControlGuard net guard) outcome ports quiet good means =
     goes 0 outcome (of_good (guard_meaning good.value) ports.files guard _ _ given read) (broken_memory outcome good.value given.value given.is.0) (λ kept.
     goes 0 outcome kept.1 (bursts_memory outcome good.value given.value given.is.1) (λ controls. inl (good_guarded outcome good.value given.value ports _ quiet.read quiet.write good.is.1 controls.is)))))
 completes (RunGuard net guard) outcome ports quiet good means = good_run (RunGuard net guard) outcome ports quiet good means
+completes (AuditGuard net guard) outcome ports quiet good means =
+    goes 0 outcome means (network_memory outcome ports.files net _ quiet good) (λ reads.
+    let on = of_good file_meaning ports.files net _ _ good reads in
+    let given = good.is.file in
+    goes 0 outcome on.1 (text_memory outcome _ (guard_meaning good.value) ports.files guard _ quiet good.is) (λ read.
+    goes 0 outcome (of_good (guard_meaning good.value) ports.files guard _ _ given read) (broken_memory outcome good.value given.value given.is.0.0) (λ kept.
+    goes 0 outcome kept.1 (bursts_memory outcome good.value given.value given.is.0.1) (λ audits.
+    audited outcome ports _ quiet (no_guarded_difference good.value given.value ports.input_before ports.input_after given.is.1 audits.rest) audits.is))))
 completes Unknown outcome ports quiet good means = absurd good
 
 pub exceeds : (command : Command) (outcome : Outcome) (ports : Ports) → IsQuiet outcome → IsExcessive command ports.files ports.input_before → Means command outcome ports → EndsIn 8 outcome

@@ -1,5 +1,5 @@
 -- How the controller under a guard ends, and that a good input is answered to its end.
-use Rattle.std.proofs.Common.{◌≡◌, ℕ, List, refl, Some, None}
+use Rattle.std.proofs.Common.{◌≡◌, ℕ, List, refl, None}
 use Rattle.std.specs.declared.option.Option.{Option}
 use Rattle.mp_control.specs.declared.driving.ControlEnd.{ControlEnd}
 use Rattle.mp_control.specs.declared.driving.ControlEnd.TheVariants.{Done, Read, Write, LineLimit, Long, Grammar}

@@ -19,7 +19,7 @@ use Rattle.mp_netfile.specs.Meaning.{file_meaning}
 use Rattle.mp_run.specs.declared.run.RunEnd.TheVariants as how
 use Rattle.mp_cli.specs.declared.outcome.Outcome.{Outcome}
 use Rattle.mp_cli.specs.declared.outcome.Outcome.TheVariants.{Done, Run as Ran}
-use Rattle.mp_cli.specs.Commands.{Command, Run, RunWith, Show, Certify, Check, Refute, Audit, AuditWith, Control, Demo, Scale, Overload, Frames, Plan, Guard, ControlGuard, RunGuard, Unknown}
+use Rattle.mp_cli.specs.Commands.{Command, Run, RunWith, Show, Certify, Check, Refute, Audit, AuditWith, Control, Demo, Scale, Overload, Frames, Plan, Guard, ControlGuard, RunGuard, AuditGuard, Unknown}
 use Rattle.mp_cli.specs.Auditing.{Compares}
 use Rattle.mp_cli.specs.Demonstrating.{IsShownRun}
 use Rattle.mp_cli.specs.Ends.{Means}
@@ -29,6 +29,7 @@ use Rattle.mp_model.specs.Guard as model
 use Rattle.mp_guard.specs.GuardText.{guard_meaning}
 use Rattle.mp_cli.specs.GuardControlling.{ControlsUnder, GuardedOn}
 use Rattle.mp_cli.specs.GuardRunning.{RunsUnder, StreamsGuarded, WritesGuardedLog, guarded_log}
+use Rattle.mp_cli.specs.GuardAuditing.{IsShownWholeUnder}
 use Rattle.mp_guard.specs.Bursts.{bounds_of, waits_of}
 use Rattle.mp_guard.specs.GuardHeader.{guard_header}
 use Rattle.mp_guard_run.specs.Running.{guarded_after, guarded_lines_from}
@@ -102,7 +103,7 @@ plan_done net C ports holds = record {
 }
 
 guarded_done : (net : Network) (guard : model.Guard) (ports : Ports) → ControlsUnder net guard (GuardedOn (Ran how.Done) net guard ports) → ControlsUnder net guard (WritesGuarded net guard ports)
-guarded_done net guard ports under = record { guards = under.guards; rest = under.rest; keeps = under.keeps; is = under.is }
+guarded_done net guard ports under = record { guards = under.guards; rest = under.rest; keeps = under.keeps; waits = under.waits; is = under.is }
 
 guard_run_done : (net : Network) (guard : model.Guard) (ports : Ports) → RunsUnder net guard (StreamsGuarded (Ran how.Done) net guard ports) → RunsUnder net guard (WritesGuardedLog net guard ports)
 guard_run_done net guard ports under =
@@ -110,6 +111,8 @@ guard_run_done net guard ports under =
     record {
       guards = under.guards;
       rest = under.rest;
+      stages = under.stages;
+      waits = under.waits;
       within = under.within;
       keeps = under.keeps;
       is = puts_log net (guarded_lines_from net guard (guarded_opening net guard)) (λ A. end_line net (guarded_after net guard (guarded_opening net guard) A).state) (text_of header) ports header (guarded_log net guard header) refl (λ A. refl) under.is;
@@ -141,6 +144,9 @@ does_done (Plan net C) ports means = absurd (went ((went means (λ no. no)).is.1
 does_done (Guard net cycle lost d) ports means = of_reads file_meaning ports.files net _ _ (went means (λ no. no)) (λ n on. let found = went on.1 (λ no. no) in (found.guard, (went found.is (λ no. no)).1))
 does_done (ControlGuard net guard) ports means = absurd (went (went (went ((went means (λ no. no)).is.1) (λ no. no)).is (λ no. no)).1 (λ no. no)).is
 does_done (RunGuard net guard) ports means = absurd (went (went (went ((went means (λ no. no)).is.1) (λ no. no)).is (λ no. no)).1 (λ no. no)).is
+does_done (AuditGuard net guard) ports means =
+    of_reads file_meaning ports.files net _ _ (went means (λ no. no)) (λ n on.
+    of_reads (guard_meaning n) ports.files guard _ (λ g. RunsUnder n g (IsShownWholeUnder Done n g ports)) (went on.1 (λ no. no)) (λ g kept. went (went kept (λ no. no)).1 (λ no. no)))
 does_done Unknown ports means = absurd (let no = means.0 in cc)
 
 does_run : (command : Command) (ports : Ports) → Means command (Ran how.Done) ports → Does command ports
@@ -180,6 +186,7 @@ does_run (ControlGuard net guard) ports means =
 does_run (RunGuard net guard) ports means =
     of_reads file_meaning ports.files net _ (λ n. Reads (guard_meaning n) ports.files guard (λ g. RunsUnder n g (WritesGuardedLog n g ports))) (went means (λ no. no)) (λ n on.
     of_reads (guard_meaning n) ports.files guard _ (λ g. RunsUnder n g (WritesGuardedLog n g ports)) (went on.1 (λ no. no)) (λ g kept. guard_run_done n g ports (went (went kept (λ no. no)).1 (λ no. no))))
+does_run (AuditGuard net guard) ports means = absurd (went (went (went ((went means (λ no. no)).is.1) (λ no. no)).is (λ no. no)).1 (λ no. no)).is.written
 does_run Unknown ports means = absurd (let no = means.0 in cc)
 
 zero_outcome : (outcome : Outcome) → status_of outcome ≡ 0 → (outcome ≡ Done) ⊎ (outcome ≡ Ran how.Done)
@@ -240,4 +247,5 @@ promised (Plan net C) outcome ports done means = promise_on outcome net ports _ 
 promised (Guard net cycle lost d) outcome ports done means = promise_on outcome net ports _ (not_refused outcome ports.files net done) means
 promised (ControlGuard net guard) outcome ports done means = promise_on outcome net ports _ (not_refused outcome ports.files net done) means
 promised (RunGuard net guard) outcome ports done means = promise_on outcome net ports _ (not_refused outcome ports.files net done) means
+promised (AuditGuard net guard) outcome ports done means = promise_on outcome net ports _ (not_refused outcome ports.files net done) means
 promised Unknown outcome ports done means = absurd (let wrong = means.0 in omega (arith, ap status_of wrong))

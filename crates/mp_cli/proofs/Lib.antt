@@ -6,7 +6,9 @@ pub mod GrowthLemmas
 pub mod GuardLemmas
 pub mod ControlLemmas
 pub mod GuardControlLemmas
+pub mod GuardStageLemmas
 pub mod GuardRunLemmas
+pub mod AuditLemmas
 pub mod StreamLemmas
 pub mod FrameLemmas
 pub mod PlanLemmas

@@ -26,6 +26,7 @@ pub data Command : Type 0 where
   Guard : List ℕ → ℕ → ℕ → ℕ → Command
   ControlGuard : List ℕ → List ℕ → Command
   RunGuard : List ℕ → List ℕ → Command
+  AuditGuard : List ℕ → List ℕ → Command
   Unknown : Command
 
 -- This is the command of the code, with the names in place of what points to them.
@@ -47,6 +48,7 @@ asked (said.Plan net c) = Plan net.now c
 asked (said.Guard net cycle lost d) = Guard net.now cycle lost d
 asked (said.ControlGuard net guard) = ControlGuard net.now guard.now
 asked (said.RunGuard net guard) = RunGuard net.now guard.now
+asked (said.AuditGuard net guard) = AuditGuard net.now guard.now
 asked said.Unknown = Unknown
 
 -- The word is the one that is listed.
@@ -128,6 +130,7 @@ command_on_two word net other =
     else if is_word word (codes "refute") then Refute net other
     else if is_word word (codes "scale") then scale_of net other
     else if is_word word (codes "runguard") then RunGuard net other
+    else if is_word word (codes "auditguard") then AuditGuard net other
     else if is_word word (codes "controlguard") then ControlGuard net other
     else if is_word word (codes "frames") then frames_of net other
     else if is_word word (codes "plan") then plan_of net other
@@ -176,4 +179,6 @@ file_of (ControlGuard net guard) Net = net
 file_of (ControlGuard net guard) Other = guard
 file_of (RunGuard net guard) Net = net
 file_of (RunGuard net guard) Other = guard
+file_of (AuditGuard net guard) Net = net
+file_of (AuditGuard net guard) Other = guard
 file_of command role = []

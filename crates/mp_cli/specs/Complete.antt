@@ -21,8 +21,10 @@ use Rattle.mp_frame.specs.FrameBounds.{HasNoFrameRoom, PassesFrameBound}
 use Rattle.mp_frame.specs.FrameNet.{frame_fault}
 use Rattle.mp_finder.specs.Finding.{finding, Guarded}
 use Rattle.mp_gen.specs.DemoNetwork.{demo_network}
-use Rattle.mp_guard.specs.Bursts.{ComeToRest}
+use Rattle.mp_guard.specs.Bursts.{ComeToRest, bounds_of, waits_of}
+use Rattle.mp_guard.specs.GuardHeader.{guard_header}
 use Rattle.mp_guard.specs.GuardText.{guard_meaning}
+use Rattle.mp_guard_audit.specs.GuardedLog.{IsWholeGuardedLog}
 use Rattle.mp_netfile.specs.Meaning.{file_meaning}
 use Rattle.mp_num.specs.Fraction.{Fraction}
 use Rattle.mp_plan.specs.Made.{IsRefused}
@@ -33,7 +35,7 @@ use Rattle.mp_verdict.specs.Stated.{Reached}
 use Rattle.mp_verdict.specs.Verdict.{verdict, Admitted}
 use Rattle.mp_verdict.specs.Verdict as judged
 use Rattle.mp_overload.specs.Evens.{uneven_link}
-use Rattle.mp_cli.specs.Commands.{Command, Run, RunWith, Show, Certify, Check, Refute, Audit, AuditWith, Control, Demo, Scale, Overload, Frames, Plan, Guard, ControlGuard, RunGuard, Unknown}
+use Rattle.mp_cli.specs.Commands.{Command, Run, RunWith, Show, Certify, Check, Refute, Audit, AuditWith, Control, Demo, Scale, Overload, Frames, Plan, Guard, ControlGuard, RunGuard, AuditGuard, Unknown}
 use Rattle.mp_cli.specs.Overloading.{IsTold}
 use Rattle.mp_cli.specs.Ports.{Files}
 use Rattle.mp_cli.specs.Refuting.{IsFormed}
@@ -79,6 +81,12 @@ pub record IsGoodLog (net : Network) (P : ℕ → ℕ → Type 0) (left : Option
   pub text : List ℕ
   pub told : left ≡ Some text
   pub whole : (num den : ℕ) (bounds : List ℕ) → P num den → AreBounds net num den bounds → IsWholeLog net num den bounds text
+
+-- The input is told, and is a whole log under the guard, with the bounds by the bursts that come to rest.
+pub record IsGoodGuardedLog (net : Network) (guard : model.Guard) (left : Option (List ℕ)) : Type 0 where
+  pub text : List ℕ
+  pub told : left ≡ Some text
+  pub whole : (rest : ComeToRest net guard) → IsWholeGuardedLog net guard (guard_header net guard (bounds_of net guard rest.surpluses rest.bursts) (waits_of net guard)) text
 
 -- The input is told, and has at most 2^48 lines, each of them skipped or of counts.
 pub record IsGoodInput (net : Network) (left : Option (List ℕ)) : Type 0 where
@@ -170,6 +178,7 @@ IsGood (Plan net C) files left = CanRun (Plan net C) files (λ n. IsGoodStream n
 IsGood (Guard net cycle lost d) files left = IsGoodFile file_meaning files net (λ n. IsGuardable n cycle lost d)
 IsGood (ControlGuard net guard) files left = IsGoodFile file_meaning files net (λ n. IsGoodText (guard_meaning n) files guard (λ g. model.Guards n g × ComeToRest n g) × IsGoodInput n left)
 IsGood (RunGuard net guard) files left = CanRun (RunGuard net guard) files (λ n. IsGoodStream n left)
+IsGood (AuditGuard net guard) files left = IsGoodFile file_meaning files net (λ n. IsGoodText (guard_meaning n) files guard (λ g. (model.Guards n g × ComeToRest n g) × IsGoodGuardedLog n g left))
 IsGood Unknown files left = ⊥
 
 -- The files of a command are good, and the stream is above a bucket.

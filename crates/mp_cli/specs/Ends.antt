@@ -3,7 +3,7 @@ use Rattle.std.specs.Prelude.{◌≡◌, ◌⊎◌, ◌++◌, ℕ, List, Option}
 use Rattle.mp_edge.specs.Outside.{Tells, Rose, GainsPrefix}
 use Rattle.mp_cli.specs.declared.outcome.Outcome.{Outcome}
 use Rattle.mp_cli.specs.declared.outcome.Outcome.TheVariants.{Words}
-use Rattle.mp_cli.specs.Commands.{Command, Run, RunWith, Show, Certify, Check, Refute, Audit, AuditWith, Control, Demo, Scale, Overload, Frames, Plan, Guard, ControlGuard, RunGuard, Unknown, command_of}
+use Rattle.mp_cli.specs.Commands.{Command, Run, RunWith, Show, Certify, Check, Refute, Audit, AuditWith, Control, Demo, Scale, Overload, Frames, Plan, Guard, ControlGuard, RunGuard, AuditGuard, Unknown, command_of}
 use Rattle.mp_cli.specs.Ports.{Ports, IsUntouched}
 use Rattle.mp_cli.specs.Running.{Runs}
 use Rattle.mp_cli.specs.RunningWith.{RunsWith}
@@ -22,6 +22,7 @@ use Rattle.mp_cli.specs.Planning.{RunsPlan}
 use Rattle.mp_cli.specs.Guarding.{FindsGuard}
 use Rattle.mp_cli.specs.GuardControlling.{ControlsGuarded}
 use Rattle.mp_cli.specs.GuardRunning.{RunsGuarded}
+use Rattle.mp_cli.specs.GuardAuditing.{AuditsUnderGuard}
 use Rattle.mp_cli.specs.Statuses.{status_of}
 use Rattle.mp_cli.specs.Messages.{message_of}
 
@@ -44,6 +45,7 @@ Means (Plan net c) outcome ports = RunsPlan outcome net c ports
 Means (Guard net cycle lost d) outcome ports = FindsGuard outcome net cycle lost d ports
 Means (ControlGuard net guard) outcome ports = ControlsGuarded outcome net guard ports
 Means (RunGuard net guard) outcome ports = RunsGuarded outcome net guard ports
+Means (AuditGuard net guard) outcome ports = AuditsUnderGuard outcome net guard ports
 Means Unknown outcome ports = (outcome ≡ Words) × IsUntouched ports
 
 -- An error output has what it held before and after a call, where it tells, and its count of faults before and after.

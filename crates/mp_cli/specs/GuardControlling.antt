@@ -10,7 +10,7 @@ use Rattle.mp_guard.specs.Checking.{IsFirstBroken, rules_of}
 use Rattle.mp_guard.specs.GuardHeader.{guard_header}
 use Rattle.mp_guard_control.specs.Accounts.{guarded_controller}
 use Rattle.mp_guard_control.specs.Driving.{EndsAs}
-use Rattle.mp_guard_control.specs.Kept.{StagesKeep}
+use Rattle.mp_guard_control.specs.Kept.{CountsKeepWaits, StagesKeep}
 use Rattle.mp_run.specs.declared.run.RunEnd.TheVariants as run
 use Rattle.mp_cli.specs.declared.outcome.Outcome.{Outcome}
 use Rattle.mp_cli.specs.declared.outcome.Outcome.TheVariants.{Run, BrokenGuard}
@@ -32,11 +32,12 @@ pub record IsHeader (net : Network) (guard : model.Guard) (text : List ℕ) : Ty
   pub rest : ComeToRest net guard
   pub is : text ≡ header_at net guard rest
 
--- The guard guards the network, and its bursts come to rest; by any counts of which a 0 is true, and over any permitted arrivals, no queue is above its bound and none with somebody waiting is without green longer than its wait; and the fact is true of the header.
+-- The guard guards the network, and its bursts come to rest; by any counts of which a 0 is true, and over any permitted arrivals, no queue is above its bound and none with somebody waiting is without green longer than its wait; by any counts, true or not, no movement of which somebody is counted is; and the fact is true of the header.
 pub record ControlsUnder (net : Network) (guard : model.Guard) (P : List ℕ → Type 0) : Type 0 where
   pub guards : model.Guards net guard
   pub rest : ComeToRest net guard
   pub keeps : StagesKeep net guard
+  pub waits : CountsKeepWaits net guard
   pub is : P (header_at net guard rest)
 
 -- The controller under a guard ended so on the input and the output, behind a header.

@@ -1,32 +1,35 @@
 -- What `runguard` promises.
-use Rattle.std.specs.Prelude.{◌≡◌, ◌∷◌, ◌++◌, [], ℕ, List}
+use Rattle.std.specs.Prelude.{ℕ, List}
 use Rattle.mp_model.specs.Arrivals.{IsPermitted}
 use Rattle.mp_model.specs.Guard as model
-use Rattle.mp_model.specs.GuardedChoice.{guarded_opening}
-use Rattle.mp_model.specs.Log.{end_line, text_of}
+use Rattle.mp_model.specs.Log.{text_of}
 use Rattle.mp_model.specs.Network.{Network}
 use Rattle.mp_guard.specs.Bursts.{ComeToRest, bounds_of, waits_of}
 use Rattle.mp_guard.specs.GuardHeader.{guard_header}
 use Rattle.mp_guard_control.specs.Kept.{StagesKeep}
-use Rattle.mp_guard_run.specs.Running.{GuardStaysWithin, guarded_after, guarded_course, guarded_lines_from}
+use Rattle.mp_guard_audit.specs.GuardedLog.{guarded_log_lines}
+use Rattle.mp_guard_run.specs.Running.{GuardKeepsWaits, GuardStaysWithin, guarded_course}
 use Rattle.mp_cli.specs.declared.outcome.Outcome.{Outcome}
 use Rattle.mp_cli.specs.GuardControlling.{IsBrokenGuard}
+use Rattle.mp_cli.specs.GuardedStages.{StagesAreGreatest}
 use Rattle.mp_cli.specs.Guarding.{HasNoBursts}
 use Rattle.mp_cli.specs.Opening.{OnNetwork, OnGuard}
 use Rattle.mp_cli.specs.Ports.{Ports, RefusedOr}
 use Rattle.mp_cli.specs.Streaming.{EndsOn, OnRun, PutsLog}
 
--- The guard guards the network, and its bursts come to rest; over all permitted arrivals no queue of the guarded run exceeds its bound; by any counts of which a 0 is true, those of the queues among them, nobody waits longer than the waits; and the fact is true of the lines of the header.
+-- The guard guards the network, and its bursts come to rest; in the guarded run over any arrivals each junction takes the greatest candidate, or the stage that stays, and no movement with somebody waiting is without green longer than its wait; over all permitted arrivals no queue of it exceeds its bound; by any counts of which a 0 is true, those of the queues among them, nobody waits longer than the waits; and the fact is true of the lines of the header.
 pub record RunsUnder (net : Network) (guard : model.Guard) (P : List (List ℕ) → Type 0) : Type 0 where
   pub guards : model.Guards net guard
   pub rest : ComeToRest net guard
+  pub stages : StagesAreGreatest net guard
+  pub waits : (A : List (List ℕ)) → GuardKeepsWaits net guard (waits_of net guard) A
   pub within : (A : List (List ℕ)) → IsPermitted net A → GuardStaysWithin net guard (bounds_of net guard rest.surpluses rest.bursts) A
   pub keeps : StagesKeep net guard
   pub is : P (guard_header net guard (bounds_of net guard rest.surpluses rest.bursts) (waits_of net guard))
 
--- The log under a guard is the text of its header, the lines of the guarded run, and the end line.
+-- The log under a guard is the text of its lines: the header, the lines of the guarded run, and the end line.
 abbrev pub guarded_log : Network → model.Guard → List (List ℕ) → List (List ℕ) → List ℕ
-guarded_log net guard header A = text_of (header ++ (guarded_lines_from net guard (guarded_opening net guard) A ++ end_line net (guarded_after net guard (guarded_opening net guard) A).state ∷ []))
+guarded_log net guard header A = text_of (guarded_log_lines net guard header A)
 
 -- The stream was run under the guard to this end behind the header.
 abbrev pub StreamsGuarded : Outcome → Network → model.Guard → Ports → List (List ℕ) → Type 0

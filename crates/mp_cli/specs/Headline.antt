@@ -15,7 +15,7 @@ use Rattle.mp_netfile.specs.Meaning.{file_meaning}
 use Rattle.mp_control.specs.Controlling as control
 use Rattle.mp_run.specs.Running.{Finished}
 use Rattle.mp_cli.specs.declared.outcome.Outcome.TheVariants.{Done}
-use Rattle.mp_cli.specs.Commands.{Command, Run, RunWith, Show, Certify, Check, Refute, Audit, AuditWith, Control, Demo, Scale, Overload, Frames, Plan, Guard, ControlGuard, RunGuard, Unknown}
+use Rattle.mp_cli.specs.Commands.{Command, Run, RunWith, Show, Certify, Check, Refute, Audit, AuditWith, Control, Demo, Scale, Overload, Frames, Plan, Guard, ControlGuard, RunGuard, AuditGuard, Unknown}
 use Rattle.mp_cli.specs.Opening.{Reads}
 use Rattle.mp_cli.specs.Ports.{Ports}
 use Rattle.mp_cli.specs.Sessions.{HoldsWith, HoldsWithGreatest}
@@ -33,6 +33,7 @@ use Rattle.mp_cli.specs.Planning.{PlanHolds, WritesPlannedLog}
 use Rattle.mp_cli.specs.Guarding.{WritesGuard}
 use Rattle.mp_cli.specs.GuardControlling.{ControlsUnder}
 use Rattle.mp_cli.specs.GuardRunning.{RunsUnder, WritesGuardedLog}
+use Rattle.mp_cli.specs.GuardAuditing.{IsShownWholeUnder}
 use Rattle.mp_guard.specs.GuardText.{guard_meaning}
 use Rattle.mp_guard_control.specs.Accounts.{guarded_controller}
 use Rattle.mp_guard_control.specs.Driving as guarded
@@ -68,6 +69,7 @@ Does (Plan net c) ports = Reads file_meaning ports.files net (λ n. PlanHolds n 
 Does (Guard net cycle lost d) ports = Reads file_meaning ports.files net (λ n. (guard : model.Guard) × WritesGuard Done n cycle lost d ports guard)
 Does (ControlGuard net guard) ports = Reads file_meaning ports.files net (λ n. Reads (guard_meaning n) ports.files guard (λ g. ControlsUnder n g (WritesGuarded n g ports)))
 Does (RunGuard net guard) ports = Reads file_meaning ports.files net (λ n. Reads (guard_meaning n) ports.files guard (λ g. RunsUnder n g (WritesGuardedLog n g ports)))
+Does (AuditGuard net guard) ports = Reads file_meaning ports.files net (λ n. Reads (guard_meaning n) ports.files guard (λ g. RunsUnder n g (IsShownWholeUnder Done n g ports)))
 Does Unknown ports = ⊥
 
 -- A period leads from one state to the next: each junction shows the stage of greatest pressure at the queues before the period, the lowest number on ties; so its line says; and after it what entered is what departed and what is queued.
@@ -108,4 +110,5 @@ OfNetwork (Plan net c) ports P = Reads file_meaning ports.files net P
 OfNetwork (Guard net cycle lost d) ports P = Reads file_meaning ports.files net P
 OfNetwork (ControlGuard net guard) ports P = Reads file_meaning ports.files net P
 OfNetwork (RunGuard net guard) ports P = Reads file_meaning ports.files net P
+OfNetwork (AuditGuard net guard) ports P = Reads file_meaning ports.files net P
 OfNetwork Unknown ports P = ⊥

@@ -23,7 +23,9 @@ pub mod Framing
 pub mod Planning
 pub mod Guarding
 pub mod GuardControlling
+pub mod GuardedStages
 pub mod GuardRunning
+pub mod GuardAuditing
 pub mod Ends
 pub mod Headline
 pub mod Complete

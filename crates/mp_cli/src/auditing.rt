@@ -1,9 +1,9 @@
 //! The audit of a log.
-ghost use Rattle.std.specs.Prelude.{◌≡◌};
+ghost use Rattle.std.specs.Prelude.{◌≡◌, ℕ, List, Option};
 ghost use Rattle.mp_edge.specs.Outside.{Rose, Tells, Puts, HasCause};
 ghost use Rattle.mp_model.specs.Certificate.{HasLengths};
 ghost use Rattle.mp_cert.specs.Views.{cert_of};
-ghost use Rattle.mp_cli.specs.Auditing.{audit_line, Audits, AuditsUnder};
+ghost use Rattle.mp_cli.specs.Auditing.{audit_line, Audits, AuditsUnder, EndsAudit};
 ghost use Rattle.mp_cli.specs.Ports.{Files};
 ghost use Rattle.mp_cli.specs.Statuses.{status_of};
 
@@ -30,6 +30,23 @@ fn put_whole<Out: Sink>(out: &mut Out, periods: u64) -> Result<(), Failed>
     out.put(line.bytes())
 }
 
+/// The outcome of an audit that ended so. Of a whole log the line is put.
+pub fn tell_end<Out: Sink>(end: AuditEnd, out: &mut Out) -> Outcome
+    ensures so { (files : Files) (left rest : Option (List ℕ)) → EndsAudit result (record { files = files; input_before = left; input_after = rest; output_before = Out.held out.old; output_after = Out.held out.new }) (λ how. how ≡ end) }
+    ensures unstored { ¬ (status_of result ≡ 2) }
+    ensures read { status_of result ≡ 10 → end ≡ AuditEnd.Read }
+    ensures write { status_of result ≡ 11 → Rose (Out.faults out.old) (Out.faults out.new) }
+{
+    match end {
+        AuditEnd::Differs { line } => Outcome::Differs { line },
+        AuditEnd::Read => Outcome::Read,
+        AuditEnd::Done { periods } => match put_whole(out, periods) {
+            Ok(()) => Outcome::Done,
+            Err(Failed) => Outcome::Write,
+        },
+    }
+}
+
 /// Compares the input with the log under a certificate.
 pub fn audit_under<In: Source, Out: Sink>(
     alloc: Global,
@@ -50,14 +67,7 @@ pub fn audit_under<In: Source, Out: Sink>(
     };
     // A session's state comes with what the session keeps.
     let _ = session.state();
-    match mp_run::audit(&mut session, input) {
-        AuditEnd::Differs { line } => Outcome::Differs { line },
-        AuditEnd::Read => Outcome::Read,
-        AuditEnd::Done { periods } => match put_whole(out, periods) {
-            Ok(()) => Outcome::Done,
-            Err(Failed) => Outcome::Write,
-        },
-    }
+    tell_end(mp_run::audit(&mut session, input), out)
 }
 
 /// Certifies the network, and compares the input with its log under the greatest slack.

@@ -75,6 +75,11 @@ pub enum Command<'a> {
         net: &'a str,
         guard: &'a str,
     },
+    /// `auditguard NET GUARD`: whether the input is a whole log under the guard, or the first line that differs.
+    AuditGuard {
+        net: &'a str,
+        guard: &'a str,
+    },
     /// `controlguard NET GUARD`: the stages under the guard for each line of counts on the input.
     ControlGuard {
         net: &'a str,
@@ -228,6 +233,8 @@ fn command_on_two<'a>(word: &str, net: &'a str, other: &'a str) -> Command<'a>
         scale_of(net, other)
     } else if is_word(word, "runguard") {
         Command::RunGuard { net, guard: other }
+    } else if is_word(word, "auditguard") {
+        Command::AuditGuard { net, guard: other }
     } else if is_word(word, "controlguard") {
         Command::ControlGuard { net, guard: other }
     } else if is_word(word, "frames") {
@@ -287,7 +294,9 @@ pub fn file_of<'a>(command: Command<'a>, role: FileRole) -> &'a str
         (FileRole::Other, Command::Refute { vector, .. }) => vector,
         (FileRole::Other, Command::ControlGuard { guard, .. }) => guard,
         (FileRole::Other, Command::RunGuard { guard, .. }) => guard,
+        (FileRole::Other, Command::AuditGuard { guard, .. }) => guard,
         (FileRole::Net, Command::RunGuard { net, .. }) => net,
+        (FileRole::Net, Command::AuditGuard { net, .. }) => net,
         (FileRole::Net, Command::Run { net } | Command::Show { net }) => net,
         (FileRole::Net, Command::Certify { net } | Command::Audit { net }) => net,
         (FileRole::Net, Command::Control { net } | Command::ControlGuard { net, .. }) => net,

@@ -2,6 +2,7 @@
 #![tactic(auto)]
 
 mod auditing;
+mod auditing_guard;
 mod auditing_with;
 mod certifying;
 mod checking;
@@ -11,6 +12,7 @@ mod controlling_guard;
 mod demonstrating;
 mod ending;
 mod framing;
+mod guard_session;
 mod guarding;
 mod message;
 mod opening;

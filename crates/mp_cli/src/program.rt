@@ -8,6 +8,7 @@ ghost use Rattle.mp_cli.specs.Headline.{Does, OfNetwork, KeepsPromise};
 ghost use Rattle.mp_cli.specs.Statuses.{status_of};
 
 use crate::auditing::audit;
+use crate::auditing_guard::audit_guard;
 use crate::auditing_with::audit_with;
 use crate::certifying::certify;
 use crate::checking::check;
@@ -69,6 +70,7 @@ fn obey<St: Store, In: Source, Out: Sink>(
             control_guard(alloc, net, guard, store, input, out)
         }
         Command::RunGuard { net, guard } => run_guard(alloc, net, guard, store, input, out),
+        Command::AuditGuard { net, guard } => audit_guard(alloc, net, guard, store, input, out),
         Command::Unknown => Outcome::Words,
     }
 }
@@ -89,7 +91,8 @@ fn obey<St: Store, In: Source, Out: Sink>(
 /// `plan NET C` runs it by a cyclic plan of C periods, with the bounds of the plan; `guard NET C L D` writes
 /// a guard with a cycle of C periods, a change of stage that loses L, and the denominator D, whose rates are
 /// the least; `controlguard NET GUARD` answers each line of counts on `input` with the stages under a guard;
-/// `runguard NET GUARD` runs the stream under it.
+/// `runguard NET GUARD` runs the stream under it; `auditguard NET GUARD` writes the number of periods of the log
+/// on `input`, where it is a whole one under the guard.
 ///
 /// Every status but 0 has its line on `err`, whose faults are ignored: 1 for words that are not listed,
 /// 2 for a fault of the store, 3 for the first rule that the network file breaks and for another file

@@ -7,13 +7,12 @@ ghost use Rattle.mp_cli.specs.Ports.{Files};
 ghost use Rattle.mp_cli.specs.Statuses.{status_of};
 
 use crate::ending::run_end;
-use crate::guarding::outcome_of_bursts;
+use crate::guard_session::open_guard_session;
 use crate::opening::{open_guard, open_net};
 use crate::outcome::Outcome;
 use mp_edge::{Sink, Source, Store};
-use mp_guard::{Guard, PutFault, bursts, check, put_guard_header, surpluses};
-use mp_guard_control::controlled_law;
-use mp_guard_run::{GuardSession, run_guarded};
+use mp_guard::{Guard, PutFault, check, put_guard_header};
+use mp_guard_run::run_guarded;
 use mp_net::Net;
 use mp_run::RunEnd;
 use std::alloc::Global;
@@ -32,17 +31,9 @@ fn stream_guarded<In: Source, Out: Sink>(
     ensures read { status_of result ≡ 10 → Rose (In.faults input.old) (In.faults input.new) }
     ensures write { status_of result ≡ 11 → Rose (Out.faults out.old) (Out.faults out.new) }
 {
-    controlled_law();
-    let _ = net.shares();
-    let Ok(surpluses) = surpluses(alloc, net) else {
-        return Outcome::NoMemory;
-    };
-    let bursts = match bursts(alloc, net, guard, &surpluses) {
-        Ok(bursts) => bursts,
-        Err(fault) => return outcome_of_bursts(fault),
-    };
-    let Ok(mut session) = GuardSession::open(alloc, net, guard, &surpluses, &bursts) else {
-        return Outcome::NoMemory;
+    let mut session = match open_guard_session(alloc, net, guard) {
+        Ok(session) => session,
+        Err(outcome) => return outcome,
     };
     match put_guard_header(alloc, out, net, guard, session.bounds(), session.waits()) {
         Ok(()) => Outcome::Run(run_end(run_guarded(&mut session, input, out))),

@@ -19,7 +19,7 @@ returns-clause-so g c = λ files.
     let found = c.in-Ok.ensures.header in
     let header = header_at net guard found.rest in
     let ends = subst (λ (text : List ℕ). GuardedEnds net guard c.control_guarded.result ports text) (c.deref.ensures.value ∙ found.is) c.control_guarded.ensures.ends in
-    inr (record { guards = c.requires; rest = found.rest; keeps = c.control_guarded.ensures.kept; is = subst (λ (end : RunEnd). GuardedOn (Run end) net guard ports header) (sym c.run_end.ensures) (guarded_to net guard ports header c.control_guarded.result ends) })
+    inr (record { guards = c.requires; rest = found.rest; keeps = c.control_guarded.ensures.kept; waits = c.control_guarded.ensures.waits; is = subst (λ (end : RunEnd). GuardedOn (Run end) net guard ports header) (sym c.run_end.ensures) (guarded_to net guard ports header c.control_guarded.result ends) })
 
 pub returns-clause-unstored : goal.returns-clause-unstored
 returns-clause-unstored g c = λ is. absurd (none_stored c.control_guarded.result (ap run_status (sym c.run_end.ensures) ∙ is))
