@@ -3,7 +3,7 @@
 PREFIX ?= /usr/local
 
 .DEFAULT_GOAL := help
-.PHONY: help run build test docs tools-test bench controls fmt install clean
+.PHONY: help run build test docs tools-test compare bench controls fmt install clean
 
 help: ## list these targets
 	@echo "README.md is the first page. The targets:"
@@ -25,6 +25,9 @@ docs: maxpressure ## compare each output in the documents with what ./maxpressur
 
 tools-test: ## test the Python tools in tools/
 	bash tools/test.sh
+
+compare: maxpressure ## compare ./maxpressure with a slow model over 1,000 networks, and attack 1,000 guards (4 minutes)
+	python3 -B .ci/compare.py maxpressure 1000
 
 bench: ## time ./maxpressure beside plain Rust, and print the table of docs/speed.md
 	bash bench/run.sh

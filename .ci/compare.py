@@ -1,6 +1,7 @@
 #!/usr/bin/env python3
 """Compares what the program prints with a slow model (model.py) over random networks, byte by byte, and tries the guards
-that the program finds against hostile choices, wrong counts and greedy arrivals.
+that the program finds against hostile choices, wrong counts and greedy arrivals: no queue may pass its bound and no red its
+wait. Over 100 networks and more some bound and some wait must be reached, and a false 0 pass one.
 
 usage: compare.py PROGRAM [NETWORKS [FIRST]]
 
@@ -345,10 +346,18 @@ class Hostile:
         return [state.most(l) if state.period >= since else 0 for l, since in zip(self.net.fed, self.since)]
 
 
-def attack(net, one, bounds, waits, draw):
-    """What is wrong under an attack, or nothing; and whether some queue reached a bound above 0."""
-    hostile, state, signals = Hostile(net, draw), State(net), Guarded(net, one)
-    red, reached = [0] * len(net.movements), False
+class FalseZero(Hostile):
+    """An attack that the guard doesn't withstand: its target is counted as 0, whoever waits."""
+
+    def counts(self, queues):
+        return [0 if k == self.target else queue for k, queue in enumerate(super().counts(queues))]
+
+
+def attack(one, bounds, waits, hostile):
+    """What is wrong under an attack, or nothing; and which of a bound and a wait above 0 were reached."""
+    net = hostile.net
+    state, signals = State(net), Guarded(net, one)
+    red, reached = [0] * len(net.movements), set()
     for _ in range(PERIODS + 3 * one.cycle):
         _, green = signals.show(hostile.counts(state.queues), hostile.chooser(state))
         red = [0 if k in green or not state.queues[k] else n + 1 for k, n in enumerate(red)]
@@ -358,40 +367,50 @@ def attack(net, one, bounds, waits, draw):
                 return f"movement {k} has a queue of {queue}, above its bound of {bound}", reached
             if n > wait:
                 return f"movement {k} waits {n} periods without green, and not {wait} at most", reached
-            reached |= queue == bound > 0
+            reached |= {it for it, has in (("bound", queue == bound > 0), ("wait", n == wait > 0)) if has}
     return None, reached
 
 
 def found(program, number):
-    """A network drawn from this number for which the program finds a guard, with the guard, its bounds and its waits, or
-    None where it finds none for many."""
+    """A network drawn from this number for which the program finds a guard; that guard, or one with other numbers that
+    keeps the rules too; and its bounds and its waits. None where the program finds none for many networks."""
     draw = random.Random(f"hostile {number}")
     for _ in range(100):
         net = draw_network(draw)
         file = program.file("net", net.text())
         text = program.ask(["guard", file, *draw_question(draw)])
         if text.status == 0:
-            header = program.ask(["runguard", file, program.file("guard", text.out)]).out.splitlines()
+            one = model.read_guard(text.out.splitlines())
+            other = changed(draw, net, one)
+            one = one if draw.random() < 0.5 or model.broken_rule(net, other) else other
+            header = program.ask(["runguard", file, program.file("guard", text_of(one.lines()))]).out.splitlines()
             numbers = [[int(it.split()[3]) for it in header if it.startswith(word)] for word in ("bound ", "wait ")]
-            return net, model.read_guard(text.out.splitlines()), numbers
+            return net, one, numbers
     return None
 
 
 def attacks(program, numbers, tally):
-    """Yields what is wrong under attacks on guards that the program finds."""
+    """Yields what is wrong under attacks on guards that the program finds, and counts what they reach."""
     for number in numbers:
         drawn = found(program, number)
         if not drawn or any(len(it) != len(drawn[0].movements) for it in drawn[2]):
             yield f"hostile network {number}: guard finds no guard, or runguard has no bound or wait of some movement"
             continue
-        (net, one, limits), draw, reached = drawn, random.Random(number), False
+        (net, one, limits), draw, reached = drawn, random.Random(number), set()
         for _ in range(ATTACKS):
-            wrong, has = attack(net, one, *limits, draw)
-            reached |= has
+            wrong, more = attack(one, *limits, Hostile(net, draw))
+            reached |= more
             if wrong:
                 yield f"hostile network {number}: {wrong}\n{net.text()}{text_of(one.lines())}"
                 break
-        tally["reached"] += reached
+        tally.update(reached)
+        tally["passed"] += any(attack(one, *limits, FalseZero(net, draw))[0] for _ in range(2))
+
+
+def blunt(tally):
+    """What no attack came to, where that is no chance: then a bound or a wait that is one too low would not be seen."""
+    names = {"bound": "reached a bound", "wait": "reached a wait", "passed": "passed a limit with a false 0"}
+    return [f"no attack {name}" for it, name in names.items() if not tally[it]]
 
 
 def main():
@@ -416,7 +435,11 @@ def main():
             for wrong in attacks(program, numbers, tally):
                 print(f"compare: {wrong}")
                 faults += 1
-            print(f"compare: {count * ATTACKS} attacks on {count} guards; in {tally['reached']} of their networks a queue reached its bound")
+            told = f"a bound was reached on {tally['bound']} of them, a wait on {tally['wait']}, and with a false 0 one was passed on {tally['passed']}"
+            print(f"compare: {count * ATTACKS} attacks on {count} guards: {told}")
+            for wrong in blunt(tally) if count >= 100 else []:
+                print(f"compare: {wrong}")
+                faults += 1
         else:
             print("compare: no guard is attacked, since the program doesn't know guard or runguard")
     print(f"compare: {count} networks, {faults} wrong")
