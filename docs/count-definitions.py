@@ -4,6 +4,7 @@
     python3 docs/count-definitions.py                      how many under each clause, and for each command
     python3 docs/count-definitions.py CLAUSE..             the definitions under these clauses, file by file
     python3 docs/count-definitions.py CLAUSE.. --command Run      those that matter for one command
+    python3 docs/count-definitions.py --write              puts the counts into docs/theorem.md
 
 A definition is an abbreviation, a function, a record or a data type below crates/*/specs, and a type of the
 code that a definition names. Those of the standard library are not counted. One stands under a clause where
@@ -11,10 +12,28 @@ the clause cites it, or a definition under the clause does.
 """
 import re
 import sys
+import textwrap
 from pathlib import Path
 
-CRATES = Path(__file__).resolve().parent.parent / "crates"
+PAGE = Path(__file__).resolve().parent / "theorem.md"
+CRATES = PAGE.parent.parent / "crates"
 TOP = CRATES / "mp_cli/src/program.rt"
+COMMANDS = CRATES / "mp_cli/src/command.rt"
+# What is read in each step of the page: modules, or one definition of a module.
+STEPS = [
+    "mp_cli.specs.Headline mp_cli.specs.Opening mp_cli.specs.Ports mp_cli.specs.Sessions mp_model.specs.declared.limits",
+    "mp_cli.specs.Commands",
+    "mp_edge.specs.Outside",
+    "mp_netfile mp_net mp_tree mp_model.specs.Names",
+    "mp_model.specs.Network",
+    "mp_model.specs.Slack mp_model.specs.Certificate mp_model.specs.Load mp_model.specs.Sums",
+    "mp_model.specs.Bounds",
+    "mp_model.specs.Arrivals",
+    "mp_model.specs.Run mp_model.specs.Split mp_model.specs.Pressure mp_model.specs.Step",
+    "mp_run.specs.Running.StaysWithin",
+    "mp_stream.specs.Course mp_model.specs.Stream",
+    "mp_stream.specs.Ends mp_run mp_model.specs.Log mp_laws",
+]
 
 USE = re.compile(r"^(?:ghost )?use Rattle\.(?!std\.)([\w.]+?)(?:\.\{(.*)\}| as (\w+))?;?$")
 START = re.compile(r"^(?:abbrev pub|unfoldable pub|abbrev|unfoldable|pub record|pub data|record|data|pub)? ?([^\s:({]+)")
@@ -132,6 +151,52 @@ class Definitions:
         return seen
 
 
+def clauses_of_top():
+    """The clauses of `top`, and what the `use` lines above it bring in."""
+    lines = TOP.read_text().splitlines()
+    text = "\n".join(lines)
+    text = text[text.index("pub fn top") :]
+    text = text[: text.index("\n{\n")] + "\n"
+    return dict(re.findall(r"ensures (\w+) \{(.*?)\}\n(?=\s*(?:ensures|//|$))", text, re.S)), scope(lines)
+
+
+def commands():
+    """The variants of the type of commands, in its order."""
+    text = COMMANDS.read_text()
+    text = text[text.index("pub enum Command") :]
+    return [it for it in re.findall(r"^    (\w+)[ ,({]", text[: text.index("\n}")], re.M) if it != "Unknown"]
+
+
+def steps(items):
+    """How many of the definitions are read in each step. Each is in one step alone, that which names it most closely."""
+    counts = [0] * len(STEPS)
+    for module, name in items:
+        path = f"{module}.{name}."
+        near = [(len(it), step) for step, names in enumerate(STEPS) for it in names.split() if path.startswith(it + ".")]
+        if not near:
+            sys.exit(f"{module}.{name} is read in no step of docs/theorem.md")
+        counts[max(near)[1]] += 1
+    return counts
+
+
+def page(count):
+    """docs/theorem.md with its counts. `count(clauses, command)` gives the definitions under some clauses."""
+    text = PAGE.read_text()
+    path = count(["done", "promised"], "Run")
+    text = re.sub(r"(The clauses are `done` and `promised`, at the command `run`: )\d+", rf"\g<1>{len(path)}", text)
+    for step, number in enumerate(steps(path), 1):
+        text = re.sub(rf"^(\| {step} \| .* \| )\d+( \|)$", rf"\g<1>{number}\2", text, flags=re.M)
+    every = commands()
+    done = sorted((len(count(["done"], it)), it.lower()) for it in every)
+    told = f"For all {len(every)} commands `done` stands on {len(count(['done']))} definitions, and with `promised` on {len(count(['done', 'promised']))}. "
+    told += "One command needs fewer: under `done` " + ", ".join(f"`{name}` {number}" for number, name in done) + ". "
+    told += f"`ends` says what every status means, and stands on {len(count(['ends']))} (`run` {len(count(['ends'], 'Run'))}); "
+    told += "it begins at `Means` in `mp_cli/specs/Ends`, and each command has a file of its own beside it. "
+    told += "`python3 docs/count-definitions.py` counts them, and lists them by file; with `--write` it puts the counts here."
+    told = "\n".join(textwrap.wrap(told, 118, break_on_hyphens=False))
+    return re.sub(r"^For all \w+ commands `done`.*?\n(?=\n)", lambda _: told + "\n", text, flags=re.M | re.S)
+
+
 def main(arguments):
     command = None
     if "--command" in arguments:
@@ -139,26 +204,28 @@ def main(arguments):
         command = arguments[at + 1]
         arguments = arguments[:at]
     definitions = Definitions()
-    lines = TOP.read_text().splitlines()
-    names, modules = scope(lines)
-    text = "\n".join(lines)
-    text = text[text.index("pub fn top") :]
-    text = text[: text.index("\n{\n")] + "\n"
-    clauses = dict(re.findall(r"ensures (\w+) \{(.*?)\}\n(?=\s*(?:ensures|//|$))", text, re.S))
+    clauses, (names, modules) = clauses_of_top()
+
+    def count(wanted, command=None):
+        return set().union(*(definitions.under(clauses[name], names, modules, command) for name in wanted))
+
+    if arguments == ["--write"]:
+        PAGE.write_text(page(count))
+        return
     if arguments:
-        items = set().union(*(definitions.under(clauses[name], names, modules, command) for name in arguments))
+        items = count(arguments, command)
         for module in sorted({item[0] for item in items}):
             print(f"{module}: " + ", ".join(sorted(name for there, name in items if there == module)))
         print(len(items))
         return
-    for name, clause in clauses.items():
-        items = definitions.under(clause, names, modules)
+    for name in clauses:
+        items = count([name])
         crates = sorted({item[0].split(".")[0] for item in items})
         counts = [f"{crate} {sum(item[0].startswith(crate + '.') for item in items)}" for crate in crates]
         print(f"{name} {len(items)}: " + ", ".join(counts))
-    for variant in "Run", "RunWith", "Show", "Certify", "Check", "Refute", "Audit", "AuditWith", "Control", "Demo", "Scale", "Overload", "Frames", "Plan", "Guard", "ControlGuard", "RunGuard":
-        counts = {name: len(definitions.under(clause, names, modules, variant)) for name, clause in clauses.items()}
-        print(f"{variant}: " + ", ".join(f"{name} {count}" for name, count in counts.items() if count > 20))
+    for variant in commands():
+        counts = {name: len(count([name], variant)) for name in clauses}
+        print(f"{variant}: " + ", ".join(f"{name} {number}" for name, number in counts.items() if number > 20))
 
 
 main(sys.argv[1:])
