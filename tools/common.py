@@ -56,8 +56,7 @@ def aligned(rows):
     left = [i == 0 or title == "remark" for i, title in enumerate(rows[0])]
     return ["  ".join(x.ljust(w) if l else x.rjust(w) for x, w, l in zip(row, widths, left)).rstrip() for row in rows]
 
-OPTIONS = {"net": ("net", {"metavar": "NET", "help": "network file"}),
-           "map": ("--map", {"help": "the map that `import` wrote (default: beside NET)"}),
+OPTIONS = {"net": ("net", {"metavar": "NET", "help": "network file"}), "map": ("--map", {"help": "the map of `import` (default: beside NET)"}),
            "period": ("--period", {"type": float, "metavar": "S", "help": "seconds in a period (default: the map's)"}),
            "guard": ("--guard", {"help": "a guard's file (default: NET with .guard, where it is there)"}),
            "program": ("--program", {"help": "the program (default: $MAXPRESSURE, else the built one)"})}
@@ -77,7 +76,7 @@ def read_map(a, net):
             names = json.load(file)
         if [m["name"] for m in names["movements"]] != [m.name for m in net.moves]:
             raise Fault(f"{path}: the map of another network; import again, or name the map with --map")
-        return names
+        return {key: names[key] for key in ("net", "routes", "additional", "scale", "period", "notes", "links", "movements", "junctions")}
     except (ValueError, KeyError, TypeError):
         raise Fault(f"{path}: not a map that `import` wrote") from None
 

@@ -5,14 +5,13 @@ detectors (.xml, with --detectors), or a stream (.stream). Counts of intervals a
 admits every draw, and the stream is the first. Of the rates of the busiest 5, 15, 30, 60 minutes and the mean, the one with which
 the program's greatest bound is smallest is taken.
 """
-import csv, json, math, random
+import json, math, random
 import xml.etree.ElementTree as ET
 from common import Fault, aligned, near, options, progress, put, read_map, seconds_in_period, written
 from network import Link, Net, busiest, least_burst
 from program import Program
 
-WINDOWS = ("5", "15", "30", "60", "mean")
-DRAWS, OTHER_DRAWS = 200, 100
+WINDOWS, DRAWS, OTHER_DRAWS = ("5", "15", "30", "60", "mean"), 200, 100
 
 def time_of(text, where):
     try:
@@ -23,8 +22,8 @@ def time_of(text, where):
 
 def rows_of(path):
     """(number, fields) of each row of a CSV that isn't blank or a comment."""
-    with open(path, newline="") as file:
-        rows = [[x.strip() for x in row] for row in csv.reader(file)]
+    with open(path, encoding="utf-8-sig", errors="replace") as file:
+        rows = [[x.strip().strip('"') for x in line.split(",")] for line in file]
     return [(i, row) for i, row in enumerate(rows, 1) if any(row) and not row[0].startswith("#")]
 
 def known(net, link, where):
@@ -137,7 +136,7 @@ def curve_rows(counts, net, link):
     yield ["of the mean", "vehicles an hour", "least burst"]
     for part in (80, 90, 100, 105, 110, 120, 135, 150, 200):
         rate = max(1, math.ceil(mean * part / 100))
-        yield [f"{part} %", f"{rate * 3600 / net.per / counts.seconds:.0f}", max(least_burst(c, rate, net.per) for c in series)]
+        yield [f"{part} %", f"{rate * 3600 / net.per / counts.seconds:,.0f}", max(least_burst(c, rate, net.per) for c in series)]
 
 def refused(counts, links, per):
     """How many of other draws this demand refuses."""
@@ -168,8 +167,8 @@ def run(a):
     answers = {w: judged(program, net, links) for w, links in found.items()}
     best = min(answers, key=lambda w: answers[w][0] or math.inf)
     print("\n".join(aligned([["busiest minutes", "vehicles an hour", "bursts", "greatest bound", "slack", ""], *(
-        [w, f"{sum(x.rate for x in found[w]) * hourly:,.0f}", sum(x.burst for x in found[w]), bound or "-", slack, "taken" if w == best else ""]
-        for w, (bound, slack, _) in answers.items())])))
+        [w, f"{sum(x.rate for x in found[w]) * hourly:,.0f}", sum(x.burst for x in found[w]), f"{bound:,}" if bound else "-", slack,
+         "taken" if w == best else ""] for w, (bound, slack, _) in answers.items())])))
     bound, _, new = answers[best]
     if new.over_limit():
         raise Fault(f"{a.input}: {new.over_limit()}")

@@ -3,9 +3,10 @@ import io, math
 import matplotlib, numpy
 
 matplotlib.use("Agg")
+matplotlib.rcParams.update({"font.size": 8, "xtick.labelsize": 7, "ytick.labelsize": 7})
 from matplotlib import pyplot  # noqa: E402
 
-BLUE, RED, GREEN, SMALL = "#3b6ea5", "#c0392b", "#2e8b57", 8
+BLUE, RED, GREEN = "#3b6ea5", "#c0392b", "#2e8b57"
 STAGES = [pyplot.get_cmap("tab20").colors[i] for i in [*range(0, 20, 2), *range(1, 20, 2)]]
 HALO = {"boxstyle": "round,pad=0.08", "fc": "white", "ec": "none", "alpha": 0.75}
 
@@ -23,7 +24,7 @@ def by_peak(log, most):
 
 def name_rows(axis, names):
     axis.set_ylim(-0.6, len(names) - 0.4)
-    axis.set_yticks(range(len(names)), names, fontsize=7)
+    axis.set_yticks(range(len(names)), names)
     axis.invert_yaxis()
 
 def queues(f, most=6):
@@ -40,15 +41,15 @@ def queues(f, most=6):
         at = high.index(max(high))
         axis.plot((x[at] + x[at + 1]) / 2, high[at], "v", color=RED, ms=5)
         bound = f", bound {f.bounds[k]:,}" if f.bounds else ""
-        axis.set_title(f"{f.net.moves[k].name}: greatest {log.peak[k]}{bound}", fontsize=SMALL, loc="left")
+        axis.set_title(f"{f.net.moves[k].name}: greatest {log.peak[k]}{bound}", fontsize=8, loc="left")
         axis.grid(alpha=0.3)
-        axis.tick_params(labelsize=7)
+        axis.locator_params(integer=True)
         axis.set(ylim=(0, max(log.peak) * 1.15 + 1), xlim=(0, x[-1]))
     for axis in list(axes.flat)[len(order):]:
         axis.axis("off")
     wide = f" (each point: the least and the greatest of {log.width} periods)" if log.width > 1 else ""
-    figure.supxlabel(("minutes" if f.seconds else "periods") + wide, fontsize=SMALL)
-    figure.supylabel("vehicles queued", fontsize=SMALL)
+    figure.supxlabel(("minutes" if f.seconds else "periods") + wide, fontsize=8)
+    figure.supylabel("vehicles queued", fontsize=8)
     return figure
 
 def bounds(f, most=40):
@@ -63,8 +64,11 @@ def bounds(f, most=40):
         axis.scatter([f.guard.bounds[k] for k in order], y, marker="d", s=22, color=GREEN, label="bound under the guard")
     name_rows(axis, [f.net.moves[k].name for k in order])
     axis.set_xscale("log")
-    axis.set_xlabel("vehicles (log scale)" + (f", {most} of {len(log.peak)} movements" if len(log.peak) > most else ""), fontsize=SMALL)
-    axis.legend(fontsize=SMALL, loc="lower center", bbox_to_anchor=(0.5, 1), ncols=4, frameon=False)
+    axis.set_xlim(left=least)
+    axis.xaxis.set_major_formatter("{x:,.0f}")
+    axis.xaxis.set_minor_formatter("")
+    axis.set_xlabel("vehicles (log scale)" + (f", {most} of {len(log.peak)} movements" if len(log.peak) > most else ""))
+    axis.legend(loc="lower center", bbox_to_anchor=(0.5, 1), ncols=4, frameon=False)
     axis.grid(axis="x", alpha=0.3)
     return figure
 
@@ -82,7 +86,8 @@ def stages(f):
                 axis.text(left + width / 2, j, str(s + 1), ha="center", va="center", fontsize=6, color="white")
     name_rows(axis, [x.name for x in f.net.junctions])
     axis.set_xlim(0, most * minutes)
-    axis.set_xlabel(("minutes" if f.seconds else "periods") + f": the first {most:,} of {log.periods:,} periods", fontsize=SMALL)
+    axis.locator_params(axis="x", integer=True)
+    axis.set_xlabel(("minutes" if f.seconds else "periods") + f": the first {most:,} of {log.periods:,} periods")
     patches = [pyplot.Rectangle((0, 0), 1, 1, color=STAGES[s], label=f"stage {s + 1}") for s in sorted(used)]
     axis.legend(handles=patches, ncols=8, fontsize=7, loc="lower center", bbox_to_anchor=(0.5, 1), frameon=False, handlelength=1)
     return figure
@@ -108,13 +113,18 @@ def springs(net):
         p = p + force / (numpy.linalg.norm(force, axis=1, keepdims=True) + 1e-9) * (0.3 * (1 - i / 600) + 0.004)
     p = p - p.mean(0)
     p = p @ numpy.linalg.svd(p, full_matrices=False)[2].T * 200    # the longest way lies flat
-    return {x.name: [tuple(p[u]), tuple(p[v])] for x, (u, v) in zip(net.links, ends)}, \
-        {j.name: tuple(p[number[j.name]]) for j in net.junctions}
+    return {x.name: [tuple(p[u]), tuple(p[v])] for x, (u, v) in zip(net.links, ends)}, {j.name: tuple(p[number[j.name]]) for j in net.junctions}
 
 def along(shape, part):
     """The point at this part of a line's length."""
     lengths = numpy.cumsum([0, *(math.dist(a, b) for a, b in zip(shape, shape[1:]))])
     return tuple(numpy.interp(part * lengths[-1], lengths, [p[i] for p in shape]) for i in (0, 1))
+
+def free_way(at, others):
+    """The way from a point into the widest gap between the ways to the others."""
+    ways = sorted(math.atan2(y - at[1], x - at[0]) for x, y in others) or [0.0]
+    gap, first = max((b - a, a) for a, b in zip(ways, [*ways[1:], ways[0] + 2 * math.pi]))
+    return math.cos(first + gap / 2), math.sin(first + gap / 2)
 
 def draw_link(axis, shape, words, color, span):
     """A link on the right of the way that it goes, with an arrow and words beside it."""
@@ -146,10 +156,13 @@ def network(f):
     for name, shape in shapes.items():
         draw_link(axis, shape, f"{name} {values[name]:.2f}", colors(min(1.0, values[name] / top)), span)
     for name, at in places.items():
-        axis.plot(*at, "o", color="#111", ms=7, zorder=5)
-        axis.annotate(name, at, xytext=(7, 9), textcoords="offset points", fontsize=7.5, weight="bold", zorder=6, bbox=HALO)
+        color, needs = (RED, f" needs {f.short[name]} of its time") if name in f.short else ("#111", "")
+        axis.plot(*at, "o", color=color, ms=7, zorder=5)
+        x, y = free_way(at, [along(s, 0.5) for s in shapes.values() if min(math.dist(at, s[0]), math.dist(at, s[-1])) < 0.1 * span])
+        axis.annotate(name + needs, at, xytext=(8 * x, 10 * y), textcoords="offset points", fontsize=7.5, weight="bold", color=color,
+                      ha=("right", "center", "left")[round(x) + 1], va="center", zorder=6, bbox=HALO)
     axis.set_aspect("equal")
     axis.axis("off")
     bar = figure.colorbar(pyplot.cm.ScalarMappable(cmap=colors, norm=pyplot.Normalize(0, top)), ax=axis, shrink=0.5)
-    bar.set_label(words, fontsize=SMALL)
+    bar.set_label(words)
     return figure

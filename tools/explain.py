@@ -11,7 +11,7 @@ from common import Fault, aligned, options, progress, read_map, seconds_in_perio
 from network import Net, table
 from program import Program, greens
 
-STATUSES = {"carried": 0, "overloaded": 4, "critical": 4, "undecided": 5}
+STATUSES, MOST = {"carried": 0, "overloaded": 4, "critical": 4, "undecided": 5}, 400    # per cent that a reserve tries at most
 
 # A movement in the certificate's green split, or green all the time where there is no certificate. Floats, for reading.
 Load = namedtuple("Load", "demand capacity green ratio")
@@ -57,6 +57,8 @@ class Facts:
         full = [m.flow * self.net.per * g for m, g in zip(self.net.moves, green)]
         self.loads = [Load(f * self.factor, c * self.factor, g, f / c if c else 0.0) for f, c, g in zip(self.net.flows(), full, green)]
         self.guard_path, self.guard, self.notes = read_guard(a, self.program)
+        self.short = {}                                            # junction -> the part of its time that it needs, where that is too much
+        self.verdict_words = self.verdict_lines()
     def verdict_lines(self):
         if self.carried:
             slack = f" (slack {self.slack} vehicles a period)" if self.slack else ""
@@ -74,10 +76,12 @@ class Facts:
             sums = self.program.confirmed(self.path, own_vector(net, weights))
             own = next((s for s in sums if ratio(s) > 0.9999 * max(map(ratio, sums))), None)   # the shortest numbers
             if kind == "critical":
+                self.short[name] = "all"
                 body += [f"junction {name} needs all of its time:", *self.need_lines(weights)]
             elif own:
                 found.insert(0, own)
-                body += [f"junction {name} needs {100 * ratio(own):.1f} % of its time (refute: load {own.load} against {own.capacity}):",
+                self.short[name] = f"{100 * ratio(own):.1f} %"
+                body += [f"junction {name} needs {self.short[name]} of its time (refute: load {own.load} against {own.capacity}):",
                          *self.need_lines(weights)]
         if not body:
             most = sorted(range(len(net.moves)), key=lambda k: -self.verdict.vector[k])[:6]
@@ -112,12 +116,13 @@ def read_guard(a, program):
     answer = program.call("runguard", a.net, path)
     if answer.status == 0:
         return path, answer.header(), []
-    why = "this program has no command `runguard`" if answer.status == 1 else f"the program says {answer.line()}"
-    return path, None, [f"{path} is left out: {why}"]
+    if a.guard:
+        raise Fault(f"{path}: the program says {answer.line()}", 2 if answer.status == 2 else 3)
+    return path, None, [f"{path} is left out: the program says {answer.line()}"]
 
-def reserve(program, net, most=400):
+def reserve(program, net):
     """The greatest percentage of the declared rates that the program still certifies."""
-    low, high = 0, most + 1
+    low, high = 0, MOST + 1
     for _ in progress("reserve, halving", range((high - low).bit_length())):
         middle = (low + high) // 2
         links = [x._replace(rate=min(1000 * net.per, math.ceil(x.rate * middle / 100))) for x in net.links]
@@ -135,7 +140,8 @@ def run(a):
     if a.line:
         return print(lines.meaning(" ".join(a.line), a.net))
     f = Facts(a)
-    print("\n".join([*f.verdict_lines(), *f.notes, *([*aligned(f.movements()), f.load_words] if f.carried else [])]))
+    print("\n".join([*f.verdict_words, *f.notes, *([*aligned(f.movements()), f.load_words] if f.carried else [])]))
     if a.reserve:
-        print(f"reserve: certified up to {reserve(f.program, f.net)} % of the declared rates")
+        part = reserve(f.program, f.net)
+        print(f"reserve: certified up to {part} % of the declared rates" + (" (no more was tried)" if part == MOST else ""))
     return STATUSES[f.verdict.kind]

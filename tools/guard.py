@@ -10,7 +10,6 @@ from network import Net
 from program import DENOMINATORS, Program
 
 CYCLES = 60
-
 Guard = namedtuple("Guard", "cycle denominator text bound median wait")     # the greatest and median bound, the longest wait
 
 def guards(program, path, lost):
@@ -18,8 +17,6 @@ def guards(program, path, lost):
     found, line = [], ""
     for cycle, denominator in progress("cycle, denominator", itertools.product(range(1, CYCLES + 1), DENOMINATORS)):
         answer = program.call("guard", path, cycle, lost, denominator)
-        if answer.status == 1:
-            raise Fault(f"this program has no command `guard` ({program.path})", 1)
         if answer.status == 0:
             with written(answer.out) as file:
                 header = program.call("runguard", path, file).header()
@@ -40,9 +37,10 @@ def run(a):
     found, line = guards(program, a.net, a.lost)
     best = min((g for g in found if a.most_wait is None or g.wait * seconds <= a.most_wait), key=lambda g: g.bound, default=None)
     if found:
+        shown = [g for last, g in zip([None, *found], found) if not last or last[:1] + last[3:] != g[:1] + g[3:]]
         print("\n".join(aligned([["cycle", "denominator", "greatest bound", "median", "longest wait", ""], *(
-            [time_words(g.cycle, seconds), g.denominator, g.bound, f"{g.median:g}", time_words(g.wait, seconds), "taken" if g is best else ""]
-            for g in found)])))
+            [g.cycle, g.denominator, g.bound, f"{g.median:g}", f"{g.wait * (seconds or 1):g} {'s' if seconds else 'periods'}",
+             "taken" if g is best else ""] for g in shown)])))
     if not best:
         raise Fault(f"no guard waits {a.most_wait:g} s or less" if found else f"no guard with a cycle of up to {CYCLES} periods: {line}", 4)
     out = a.out or a.net.removesuffix(".toml") + ".guard"

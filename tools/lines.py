@@ -1,12 +1,13 @@
 """What a line on the program's error output means for a network file, and what to change."""
 import os, re
 from common import Fault, near
-from network import BURST, JUNCTIONS, LINKS, MOVEMENTS, OWN, RATE, STAGES, Net, table
+from network import BURST, JUNCTIONS, LINKS, MOVEMENTS, OWN, RATE, STAGES, START, Net, table
 
-KEYS = {"top": {"version": (int, 1, 1), "shares": (int, 1, 1000), "per": (int, 1, 3600), "link": (list, 1, LINKS),
+KEYS = {"top": {"version": (int, 1, 2), "shares": (int, 1, 1000), "per": (int, 1, 3600), "link": (list, 1, LINKS),
                 "movement": (list, 1, MOVEMENTS), "junction": (list, 1, JUNCTIONS)},
         "link": {"name": (str, 0, 0), "burst": (int, 0, BURST), "rate": (int, 0, RATE)},
-        "movement": {"name": (str, 0, 0), "from": (str, 0, 0), "to": (str, 0, 0), "share": (int, 1, 1), "flow": (int, 1, 1000)},
+        "movement": {"name": (str, 0, 0), "from": (str, 0, 0), "to": (str, 0, 0), "share": (int, 1, 1), "flow": (int, 1, 1000),
+                     "start": (int, 0, START)},
         "junction": {"name": (str, 0, 0), "stages": (list, 1, STAGES)}}
 NAME = re.compile(r"[A-Za-z0-9_.-]{1,32}")
 
@@ -23,12 +24,12 @@ class Spot:
 
 def wrong_value(s):
     """The first of: a key that isn't listed, an absent one, another type, a number or a count out of its range."""
-    keys = KEYS[s.section]
+    keys = {key: x for key, x in KEYS[s.section].items() if key != "start" or s.file.get("version") == 2}
     for key in s.here:
         if key not in keys:
             return f"{s.words} has the key {key!r}, which is none of {', '.join(keys)}: take it out"
     for key, (kind, least, most) in keys.items():
-        value = s.here.get(key, 0 if key in ("burst", "rate") else None)
+        value = s.here.get(key, 0 if key in ("burst", "rate", "start") else None)
         if value is None or not isinstance(value, kind) or isinstance(value, bool):
             return f"{s.words} has no {key}: add it" if value is None else f"{s.words}: {key} is {value!r}, where {kind.__name__} is wanted"
         most *= {"rate": s.file.get("per"), "share": s.file.get("shares")}.get(key, 1)
@@ -80,8 +81,7 @@ def no_way_out(s):
         link = todo.pop()
         todo += [m["to"] for m in s.out_of(link) if m["to"] not in seen] if link not in seen else []
         seen.add(link)
-    return None if "out" in seen else f"from {s.words} no way leads out: one comes to {', '.join(sorted(seen))} alone; give one of " \
-        "these a movement to `out`"
+    return None if "out" in seen else f"from {s.words} no way leads out: give one of {', '.join(sorted(seen))} a movement to `out`"
 
 RULES = [
     lambda s: f"the file has {os.path.getsize(s.path)} bytes, where 1048576 fit",
@@ -100,6 +100,12 @@ OTHERS = {
     "{w} text line {n}": "line {n} of the {w}'s file isn't what its grammar has there (docs/formats.md)",
     "network critical": "the demand is carried with nothing to spare, so no bound holds: `mp explain NET` says where",
     "network overloaded": "nothing carries the demand: `mp explain NET` says where, and how much of it is carried",
+    "network admitted": "the demand is carried, so `overload` has nothing to show: `mp explain NET` says how much is to spare",
+    "uneven link {link}": "link {link} has no burst and a rate of {rate}, which is no multiple of {per}: give it a burst of 1",
+    "plan cycle link {link}": "from link {link} movements lead back to it, where a plan has no bounds: take `run` or `frames`",
+    "plan full {junction}": "the greens of junction {junction} don't fit: take a longer cycle (`mp explain NET` says if any is long enough)",
+    "frames per": "a rate length of {per} periods is too long for frames of so many: divide it and the rates by a common divisor",
+    "frames rate {link}": "the rate of link {link} is above what a frame can carry: look for a wrong `per`, which is {per}",
     "certificate fails {w}": "the certificate doesn't hold for this network, by its rule `{w}` ({place}): make it again",
     "guard fails {w}": "the guard doesn't hold for this network, by its rule `{w}` ({place}): `mp guard` makes one",
     "guard none": "no rates at this denominator carry the demand: overloaded (`mp explain NET`), or take a greater denominator",
@@ -109,9 +115,11 @@ OTHERS = {
     "scale none": "no certificate over this denominator holds: take a greater one, or ask `mp explain NET`",
     "overflow bound": "a bound exceeds 128 bits: smaller bursts or shares give smaller bounds",
     "overflow room": "a bound is above 2^62: smaller bursts or shares give smaller bounds",
-    "overflow {w}": "the exact numbers exceed 128 bits ({place}), and nothing is said of the demand: `mp explain NET` goes on from there",
+    "overflow growth": "nothing carries the demand; how fast the queues grow exceeds 128 bits: round the flows",
+    "overflow plan": "the greens or bounds of the plan exceed 128 bits: round the shares, or the rates and the rate length",
+    "overflow {w}": "the exact numbers of `{w}` ({place}) exceed 128 bits, and nothing is said of the demand: `mp explain NET` goes on",
     "pivots {junction}": "the linear program of junction {junction} came to its limit of turns, and nothing is said of the demand",
-    "sweeps {w}": "a search doesn't come to rest ({w}): take another denominator, or a longer cycle",
+    "sweeps {w}": "a search doesn't come to rest ({w}): take a smaller denominator",
     "line {n} long": "line {n} of the input has too many bytes",
     "line {n} grammar": "line {n} isn't in the grammar; a stream has {fed} counts here, with commas, one for each of {links}",
     "line {n} above period {w} link {link}": "in period {w} (line {n}) more come to link {link} than its burst of {burst} and its rate of "
@@ -120,9 +128,8 @@ OTHERS = {
     "read": "the input broke off by a fault of the system",
     "write": "the output couldn't be written (a full disk, a closed pipe); what is there is a part",
     "memory": "there was not enough memory, and nothing was written",
-    "log differs line {n}": "up to line {n} the log is one of this network; that line isn't what the program would have written: the log "
-    "is of another network, cut short or changed"}
-GROUPS = {"w": r"(?P<w>.+)", **{key: rf"(?P<{key}>\d+)" for key in ("n", "link", "junction")}}
+    "log differs line {n}": "line {n} isn't what the program would have written behind those before: a log of another network, cut or changed"}
+GROUPS = {"w": r"(?P<w>.+)", "junction": r"(?:junction )?(?P<junction>\d+)", **{key: rf"(?P<{key}>\d+)" for key in ("n", "link")}}
 
 def numbered(things, number):
     if not 1 <= int(number) <= len(things):
@@ -134,7 +141,7 @@ def place_of(net, words):
     rule, *numbers = words.split()
     kind = "movement" if rule in ("h", "serve", "balance") else "junction"
     if not numbers:
-        return "the calculation of the " + {"flow": "flows"}.get(rule, rule)
+        return "as a whole"
     name = numbered(net.moves if kind == "movement" else net.junctions, numbers[0]).name
     return f"{kind} {name}" + (f", stage {numbers[1]}" if len(numbers) > 1 else "")
 
@@ -142,7 +149,7 @@ def other(line, path):
     for pattern, words in OTHERS.items():
         got = re.fullmatch(re.sub(r"\{(\w+)\}", lambda name: GROUPS[name[1]], pattern), line)
         if got:
-            values, net = got.groupdict(), Net.read(path) if re.search(r"\{(place|link|junction|fed)\}", words) else None
+            values, net = got.groupdict(), Net.read(path) if re.search(r"\{(place|link|junction|fed|per)\}", words) else None
             if net:
                 link = numbered(net.links, values.get("link", 1))
                 values.update(link=link.name, burst=link.burst, rate=link.rate, per=net.per, fed=len(net.fed),

@@ -1,7 +1,6 @@
 """SUMO with the program as its controller, beside SUMO's own programs over the same demand. NET and its map are what `import` wrote.
 
-  program      `control`: the stages of greatest pressure at the queues that stand on the road (where the program has no such
-               command yet: a fresh call each period, with these queues as first arrivals)
+  program      `control`: the stages of greatest pressure at the queues that stand on the road
   guard        `controlguard` with a guard, and for how many movements SUMO's own queue exceeded its bound
   run          `run` over a pipe. It hears of arrivals alone and moves vehicles of its own: not for a real road
   static, actuated, delay_based    SUMO's programs, with the phases of the network
@@ -9,7 +8,7 @@
 import contextlib, itertools, multiprocessing, os, statistics, tempfile
 import explain, sumo
 from common import Fault, aligned, listed, must_exist, options, progress, put, read_map
-from network import BURST, JUNCTIONS, LINKS, OWN, Junction, Link, Movement, Net
+from network import Net
 from program import Program
 
 SUMOS = ("static", "actuated", "delay_based")
@@ -17,12 +16,6 @@ MODES = ("program", "guard", "run", *SUMOS)
 STANDS = 5                                                         # m/s: a slower vehicle counts as queued
 YELLOW, RED = 3, 1                                                 # seconds between stages
 COLUMNS = ("mode", "seed", "delay", "waiting", "longest", "queue", "teleports", "vehicles", "remark")
-
-def stages_of(line):
-    """The stages, from 0, of a line of a log."""
-    fields = line.split()
-    s, q = fields.index("s"), fields.index("q")
-    return [int(x) - 1 for x in fields[s + 1:q if q > s else None]]
 
 class Control:
     """`control` or `controlguard` over a pipe: the queues in, the stages out."""
@@ -35,7 +28,7 @@ class Control:
         for line in self.process.stdout:
             self.text.append(line)
             if line.startswith(("p ", "c ")):
-                return stages_of(line)
+                return [int(x) - 1 for x in line.partition(" s ")[2].partition(" q ")[0].split()]
         raise Fault(f"the program ended with {self.process.wait()}: {self.process.stderr.readline().strip()}")
     def end(self):
         self.process.stdin.close()
@@ -62,39 +55,6 @@ class Run(Control):
         super().end()
         answer = self.program.call("audit", self.path, text="".join(self.text))
         return f"it moved vehicles of its own; held back {self.most} at most; audit: {(answer.out + answer.err).strip()}"
-
-class Fresh:
-    """The stages of greatest pressure at any queues, by a call of `runwith` on a network made for it.
-
-    Each movement is a link of its own there, whose first arrivals are its queue times the share total, and what is queued
-    downstream, by shares, stands on one more link: so the weights of period 2 are those of the network at these queues.
-    """
-    def __init__(self, net, program, folder):
-        self.net, self.program, self.path = net, program, os.path.join(folder, "fresh.toml")
-        self.targets = sorted({net.link_number[m.to] for m in net.moves if m.to != "out"})
-        moves = [Movement(f"q{k}", f"q{k}", "out" if m.to == "out" else f"d{net.link_number[m.to]}", 1, m.flow)
-                 for k, m in enumerate(net.moves)] + [Movement(f"d{i}", f"d{i}", "out", 1, 1) for i in self.targets]
-        below = range(len(net.moves), len(moves))
-        junctions = [Junction(f"j{j}", x.stages) for j, x in enumerate(net.junctions)]
-        junctions += [Junction(f"down{i}", [list(below[i:i + OWN])]) for i in range(0, len(below), OWN)]
-        if len(moves) > LINKS or len(junctions) > JUNCTIONS:
-            raise Fault("the network is too large for fresh calls: it needs a program that has `control`")
-        put(self.path, Net(1, net.per, [Link(m.name, BURST, 0) for m in moves], moves, junctions).text())
-        verdict = program.verdict(self.path)
-        if verdict.kind != "carried":
-            raise Fault(f"fresh calls: {verdict.how}")
-        put(self.path + ".cert", verdict.certificate)
-    def stages(self, queues, came):
-        net, moves = self.net, self.net.moves
-        counts = [net.shares * q for q in queues] + [sum(moves[k].share * queues[k] for k in net.out_of[i]) for i in self.targets]
-        text = ",".join(str(min(BURST, n)) for n in counts) + "\n" + ",".join("0" * len(counts)) + "\n"
-        answer = self.program.call("runwith", self.path, self.path + ".cert", text=text)
-        line = next((x for x in answer.out.splitlines() if x.startswith("p 2 ")), None)
-        if not line:
-            raise Fault(f"the program ended with {answer.status}: {answer.line()}")
-        return stages_of(line)[:len(net.junctions)]
-    def end(self):
-        return "by fresh calls"
 
 class Road:
     """A simulation, and the network's names on it."""
@@ -168,7 +128,7 @@ class Road:
         delay = [float(t["timeLoss"]) + max(0, float(t["departDelay"])) for t in trips] or [0]
         return [f"{statistics.mean(delay):.1f}", f"{statistics.mean(waiting):.1f}", round(max(waiting)), self.greatest, self.teleports, len(trips)]
 
-def controller(a, net, program, mode, folder):
+def controller(a, net, program, mode):
     """(the controller or None, the guard's bounds or None)"""
     if mode == "guard":
         path, header, left_out = explain.read_guard(a, program)
@@ -176,17 +136,17 @@ def controller(a, net, program, mode, folder):
             raise Fault(left_out[0] if path else "no guard beside the network: `mp guard` makes one")
         return Control(program, "controlguard", a.net, path), header.bounds
     if mode == "program":
-        return (Fresh(net, program, folder) if program.call("control", a.net).status == 1 else Control(program, "control", a.net)), None
+        return Control(program, "control", a.net), None
     return Run(net, program, a.net) if mode == "run" else None, None
 
 def drive(a, net, names, program, mode, seed, folder):
     """The row of one mode and seed."""
-    control, bounds = controller(a, net, program, mode, folder)
-    road, over, remarks = Road(a, net, names, mode, seed, folder), set(), []
+    control, bounds = controller(a, net, program, mode)
+    road, most, remarks = Road(a, net, names, mode, seed, folder), [0] * len(net.moves), []
     for second in progress(f"{mode}, seed {seed}, second", range(a.end + a.drain)):
         if control and second % names["period"] == 0:
             queues = road.standing()
-            over |= {k for k, q in enumerate(queues) if bounds and q > bounds[k]}
+            most = list(map(max, most, queues))
             try:
                 road.wanted, road.came = control.stages(queues, road.came), [0] * len(net.links)
             except Fault as fault:
@@ -199,7 +159,9 @@ def drive(a, net, names, program, mode, seed, folder):
         if second >= a.end and road.su.simulation.getMinExpectedNumber() == 0:
             break
     remarks += [control.end()] if control else []
-    remarks += [f"{len(over)} of {len(bounds)} queues exceeded their bounds (of at most {max(bounds)})"] if bounds else []
+    if bounds:
+        over = sum(q > bound for q, bound in zip(most, bounds))
+        remarks.append(f"{over} of {len(bounds)} queues exceeded their bounds of {min(bounds)} to {max(bounds)}; the greatest was {max(most)}")
     return [mode, seed, *road.end(), "; ".join(remarks)]
 
 def alone(sender, *words):
@@ -230,11 +192,12 @@ def prepared(a):
         raise Fault(f"{a.net} has no map beside it: `mp import` writes one", 2)
     a.routes, a.scale = listed(a.routes) or names["routes"], a.scale or names["scale"]
     a.additional = names["additional"] if a.additional is None else listed(a.additional)
-    for mode in listed(a.modes):
-        if mode not in MODES:
-            raise Fault(f"no mode {mode!r}, but {', '.join(MODES)}")
-    if not a.routes or YELLOW + RED >= names["period"]:
-        raise Fault("no routes: name them with -r" if not a.routes else f"yellow and red leave no green in a period of {names['period']} s")
+    wrong = [f"no mode {mode!r}, but {', '.join(MODES)}" for mode in listed(a.modes) if mode not in MODES]
+    wrong += [f"no seed {seed!r}, but whole numbers" for seed in listed(a.seeds) if not seed.isdigit()]
+    wrong += [] if a.routes else ["no routes: name them with -r"]
+    wrong += [] if YELLOW + RED < names["period"] else [f"yellow and red leave no green in a period of {names['period']} s"]
+    if wrong:
+        raise Fault(wrong[0])
     must_exist(names["net"], *a.routes, *a.additional)
     return net, names
 
@@ -254,3 +217,4 @@ def run(a):
         child.join()
     print("\n".join(aligned([COLUMNS, *rows])))
     print("means of delay and waiting, and the longest waiting, in seconds; queue: the most that halted on one edge")
+    return 3 if any(row[2] == "-" for row in rows) else 0

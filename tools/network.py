@@ -3,10 +3,10 @@ import itertools, tomllib
 from collections import namedtuple
 from common import Fault
 
-LINKS, MOVEMENTS, JUNCTIONS, STAGES, OWN, BURST, RATE = 128, 512, 64, 16, 24, 10000, 1000   # limits of the network file
+LINKS, MOVEMENTS, JUNCTIONS, STAGES, OWN, BURST, RATE, START = 128, 512, 64, 16, 24, 10000, 1000, 10**6   # limits of the network file
 
 Link = namedtuple("Link", "name burst rate")
-Movement = namedtuple("Movement", "name origin to share flow")
+Movement = namedtuple("Movement", "name origin to share flow start", defaults=(0,))
 Junction = namedtuple("Junction", "name stages")                   # a stage is a list of movement numbers from 0
 
 class Net:
@@ -26,9 +26,8 @@ class Net:
         t = table(path)
         try:
             number = {m["name"]: k for k, m in enumerate(t["movement"])}
-            return cls(t["shares"], t["per"],
-                       [Link(x["name"], x.get("burst", 0), x.get("rate", 0)) for x in t["link"]],
-                       [Movement(m["name"], m["from"], m["to"], m["share"], m["flow"]) for m in t["movement"]],
+            return cls(t["shares"], t["per"], [Link(x["name"], x.get("burst", 0), x.get("rate", 0)) for x in t["link"]],
+                       [Movement(m["name"], m["from"], m["to"], m["share"], m["flow"], m.get("start", 0)) for m in t["movement"]],
                        [Junction(j["name"], [[number[k] for k in s] for s in j["stages"]]) for j in t["junction"]])
         except (KeyError, TypeError, AttributeError):
             raise Fault(f"{path}: breaks a rule of network files (`mp explain {path}` names it)") from None
@@ -36,7 +35,8 @@ class Net:
         return Net(self.shares, self.per, links, self.moves, self.junctions)
     def text(self, head=(), notes=()):
         """The file, with comments: lines of the head, and notes by the name of a link or movement."""
-        out = [f"# {line}" for line in head] + ["version = 1", f"shares = {self.shares}", f"per = {self.per}"]
+        version = 2 if any(m.start for m in self.moves) else 1
+        out = [f"# {line}" for line in head] + [f"version = {version}", f"shares = {self.shares}", f"per = {self.per}"]
         for section, things in (("link", self.links), ("movement", self.moves), ("junction", self.junctions)):
             for x in things:
                 out += ["", *([f"# {notes[x.name]}"] if x.name in notes else []), f"[[{section}]]", f'name = "{x.name}"']
@@ -44,6 +44,7 @@ class Net:
                     out += [f"{key} = {n}" for key, n in (("burst", x.burst), ("rate", x.rate)) if n]
                 elif section == "movement":
                     out += [f'from = "{x.origin}"', f'to = "{x.to}"', f"share = {x.share}", f"flow = {x.flow}"]
+                    out += [f"start = {x.start}"] if x.start else []
                 else:
                     names = (", ".join(f'"{self.moves[k].name}"' for k in stage) for stage in x.stages)
                     out.append("stages = [" + ", ".join(f"[{n}]" for n in names) + "]")
@@ -59,8 +60,7 @@ class Net:
         return [through[self.link_number[m.origin]] * m.share / self.shares for m in self.moves]
     def weights(self, p):
         """The positive weight of each movement at the numbers p."""
-        return [max(0, self.shares * p[k] - sum(self.moves[i].share * p[i] for i in self.downstream[k]))
-                for k in range(len(p))]
+        return [max(0, self.shares * p[k] - sum(self.moves[i].share * p[i] for i in self.downstream[k])) for k in range(len(p))]
     def over_limit(self):
         """The first limit of the network file that is exceeded, in words, or None."""
         counts = [("the network", what, len(got), most) for what, got, most in (

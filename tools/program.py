@@ -28,7 +28,7 @@ class Program:
         named = path or os.environ.get("MAXPRESSURE")
         if named and not os.path.isfile(named):
             raise Fault(f"{named}: no program there (--program, $MAXPRESSURE)", 2)
-        self.path = named or next((p for p in BUILT if os.path.isfile(p)), None)
+        self.path = os.path.abspath(named) if named else next((p for p in BUILT if os.path.isfile(p)), None)
         if not self.path:
             raise Fault("the program is not built (make build), nor named by --program or $MAXPRESSURE", 2)
     def call(self, *words, text=""):

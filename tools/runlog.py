@@ -1,8 +1,8 @@
 """A log, read once line by line: of `run` or `runwith`, of a guarded run, or of `control`."""
+import operator
 from common import Fault
 
 FIRST = {"maxpressure 1": "run", "maxpressure control 1": "control", "guard 1": "guarded"}
-GUARD = ("cycle", "lost", "d", "h", "green")
 
 class Log:
     """What is kept of a log: queues in columns of (least, greatest), however long it is, and totals."""
@@ -41,13 +41,14 @@ class Log:
             self.end = dict(zip(f[2::2], map(int, f[3::2])))
         elif f[0] in ("p", "c"):
             self.period(f)
-        elif self.kind != "guarded" or f[0] not in (*GUARD, "wait"):
+        elif self.kind != "guarded" or f[0] not in ("cycle", "lost", "d", "h", "green", "wait"):
             raise Fault(f"{f[0]!r} begins no line of a log")
     def period(self, f):
         if int(f[1]) != self.periods + 1:
             raise Fault(f"period {f[1]}, where {self.periods + 1} is next")
         s, q = f.index("s"), f.index("q")
         counts = f[0] == "c"                                       # a line of `control` has its queues before its stages
+        self.kind = "guarded control" if counts and self.kind == "guarded" else self.kind
         queues = [int(x) for x in (f[q + 1:s] if counts else f[q + 1:])]
         stages = [int(x) - 1 for x in (f[s + 1:] if counts else f[s + 1:q])]
         arrivals = [] if counts else [int(x) for x in f[3:s]]
@@ -72,19 +73,11 @@ class Log:
                 self.low = [[min(x) for x in zip(*self.low[i:i + 2])] for i in pairs]
                 self.high = [[max(x) for x in zip(*self.high[i:i + 2])] for i in pairs]
                 self.width *= 2
-        low, high, total, peak, red, longest = self.low[-1], self.high[-1], self.total, self.peak, self.red, self.longest_red
+        self.low[-1], self.high[-1] = list(map(min, self.low[-1], queues)), list(map(max, self.high[-1], queues))
+        self.total, self.peak = list(map(operator.add, self.total, queues)), list(map(max, self.peak, queues))
         green = self.green.get(stages) or self.greens(stages)
-        for k, q in enumerate(queues):
-            total[k] += q
-            if q > high[k]:
-                high[k] = q
-            if q < low[k]:
-                low[k] = q
-            if q > peak[k]:
-                peak[k] = q
-            red[k] = red[k] + 1 if standing[k] and not green[k] else 0
-            if red[k] > longest[k]:
-                longest[k] = red[k]
+        self.red = [periods + 1 if n and not shown else 0 for periods, n, shown in zip(self.red, standing, green)]
+        self.longest_red = list(map(max, self.longest_red, self.red))
     def greens(self, stages):
         """Whether each movement is green in these stages."""
         for junction, s in zip(self.net.junctions, stages):

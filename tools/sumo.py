@@ -39,11 +39,14 @@ def read_network(path):
 def signal_programs(files, which=None):
     """light -> (state, seconds) of its phases: of the program loaded last, of the one named, or of `all`."""
     found = {}
-    for e in (e for path in files for e in events(path)):
+    for path, e in ((path, e) for path in files for e in events(path)):
         if e.tag == "tlLogic":
             programs = found.setdefault(e.get("id"), {})
             programs.pop(e.get("programID"), None)
-            programs[e.get("programID")] = [(p.get("state"), float(p.get("duration") or 0)) for p in e.iter("phase")]
+            try:
+                programs[e.get("programID")] = [(p.attrib["state"], float(p.get("duration") or 0)) for p in e.iter("phase")]
+            except (KeyError, ValueError) as fault:
+                raise Fault(f"{path}: a phase of light {e.get('id')} is wrong: {fault}") from None
     if which not in (None, "all") and not any(which in programs for programs in found.values()):
         raise Fault(f"no signal program {which!r}")
     return {light: sum(programs.values(), []) if which == "all" else programs.get(which, list(programs.values())[-1])

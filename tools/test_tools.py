@@ -1,5 +1,5 @@
 """Tests of the tools. What needs a package or the built program is skipped, with the reason, where it is missing."""
-import argparse, importlib.util, os, re, shutil, signal, subprocess, sys, tempfile, time, unittest
+import argparse, importlib.util, os, re, shutil, signal, subprocess, sys, tempfile, unittest
 import demand, explain, importer, lines, network
 from common import Fault, put, written
 from network import Junction, Link, Movement, Net, busiest, least_burst
@@ -62,6 +62,9 @@ class Numbers(Case):
         self.assertEqual(explain.short_junctions(two(5), [1, 1]), [("j", {0: 1, 1: 1})])   # a load of 10 where 8 are served
         with written(two(1).text(["a head"], {"a": "a note"})) as path:
             self.assertEqual(Net.read(path).text(), two(1).text())
+        text = Net(1, 4, two(1).links, [m._replace(start=7) for m in two(1).moves], two(1).junctions).text()      # of version 2
+        with written(text) as path:
+            self.assertEqual((Net.read(path).text(), PROGRAM and PROGRAM.call("show", path).status), (text, PROGRAM and 0))
 
 class Logs(Case):
     def test_good(self):
@@ -146,12 +149,17 @@ class Lines(Case):
         for line, words in (
                 ("line 5 above period 3 link 2", "more come to link b than its burst of 2 and its rate of 1 per 4"), ("pivots 1", "junction j"),
                 ("certificate fails serve 2", "movement bo"), ("certificate fails part 1 2", "junction j, stage 2"), ("words", "no such command"),
-                ("certificate fails d", "rule `d`"), ("overflow flow", "calculation of the flows"), ("overflow game 1", "junction j"),
+                ("certificate fails d", "rule `d`"), ("overflow flow", "`flow` (as a whole)"), ("overflow game 1", "junction j"),
                 ("overflow room", "2^62"), ("store x.toml", "x.toml couldn't"), ("vector text line 2", "line 2 of the vector's"),
-                ("line 3 grammar", "2 counts here"), ("log differs line 6", "up to line 6"), ("guard full 1", "greens of junction j"),
-                ("network overloaded", "`mp explain NET`")):
+                ("line 3 grammar", "2 counts here"), ("log differs line 6", "line 6 isn't what"), ("guard full 1", "greens of junction j"),
+                ("network overloaded", "`mp explain NET`"), ("uneven link 2", "link b has no burst and a rate of 1"),
+                ("plan full junction 1", "greens of junction j"), ("frames per", "4 periods"), ("sweeps bound", "smaller denominator")):
             with self.subTest(line), written(two(1).text()) as path:
                 self.assertIn(words, lines.meaning(line, path))
+        with open(os.path.join(HERE, "../docs/formats.md")) as file, written(two(1).text()) as path:   # each that it lists
+            for line in re.findall(r"`([^`]+)`", "".join(row.split("|")[3] for row in file if re.match(r"\| [\d, ]+ \|", row))):
+                if not line.startswith("network N"):
+                    lines.meaning(re.sub(r"\d+", "1", line), path)
         for line in ("nonsense", "network N9 link 1", "network N9 link 7", "pivots 4", "network N15 top"):
             with self.subTest(line), written(two(1).text()) as path, self.assertRaises(Fault):
                 lines.meaning(line, path)
@@ -173,20 +181,19 @@ class WithProgram(Case):
         self.refuses("gone.toml: No such file", 2, "explain", "gone.toml")
         self.refuses("no program there", 2, "explain", self.net(), "--program", "gone")
         self.refuses("m.json: the map of another", 3, "explain", self.net(), "--map", self.file("m.json", '{"movements": []}'))
-        self.refuses("m.json: not a map", 3, "explain", self.net(), "--map", self.file("m.json", "{"))
+        for text in ("{", '{"movements": [{"name": "ao"}, {"name": "bo"}]}'):
+            self.refuses("m.json: not a map", 3, "explain", self.net(), "--map", self.file("m.json", text))
         self.refuses("n.log: line 6: cut short", 3, "report", self.net(), self.file("n.log", CUT))
         self.refuses("another network", 3, "report", self.net(), self.file("n.log", LOG.replace("ao", "xo")))
         self.refuses("gone.log: No such file", 2, "report", self.net(), "gone.log")
-        if PROGRAM.call("guard", "gone", "4", "0", "4").status == 1:
-            self.refuses("this program has no command `guard`", 1, "guard", self.net())
     def test_silent_ends(self):
-        pipe = subprocess.PIPE
-        for ended, text, status in ((lambda p: p.stdout.close(), LOG, 141), (lambda p: p.send_signal(signal.SIGINT), "", 130)):
+        pipe, log = subprocess.PIPE, "maxpressure 1\n" + "".join(f"p {t} a 0 0 s 1 q 0 0\n" for t in range(1, 9999))
+        for ended, status in ((lambda p: p.stdout.close(), 141), (lambda p: p.send_signal(signal.SIGINT), 130)):
             words = [sys.executable, os.path.join(HERE, "mp"), "report", self.net(), "-"]
             with subprocess.Popen(words, stdin=pipe, stdout=pipe, stderr=pipe) as p:
-                time.sleep(2)                                      # it waits for the log
+                p.stdin.write(log.encode())                        # more than a pipe holds: so it is read when this ends
+                p.stdin.flush()
                 ended(p)
-                p.stdin.write(text.encode())
                 p.stdin.close()
                 self.assertEqual((p.stderr.read(), p.wait()), (b"", status))
     @plots
@@ -214,8 +221,18 @@ class WithProgram(Case):
         with open(out + ".stream") as stream:
             log = PROGRAM.call("run", out + ".toml", text=stream.read()).out.splitlines()
         self.assertEqual((log[1], log[-1]), ("slack 2299/6000", "end 120 in 2170 out 2141 queued 29"))
-        said = mp("loop", out + ".toml", "-a", RILSA + "/vtypes.add.xml", "--modes", "program", "--end", "300", "--drain", "0")[1]
-        self.assertRegex(said, r"program +1 .*(fresh calls|over a pipe)")
+        self.assertIn("no queue exceeds 69, and nobody stands longer than 9.0 min", mp("guard", out + ".toml")[1])
+        self.assertRegex(mp("explain", out + ".toml")[1], r"guard's wait.*\nwm.rs +3,129 +69 +240 s")
+        self.assertIn("no guard waits 60 s or less", mp("guard", out + ".toml", "--most-wait", "60")[2])
+        words = ["loop", out + ".toml", "--end", "120", "--drain", "0", "--modes", "program"]
+        status, said, _ = mp(*words[:-1], "program,guard,run", "-a", RILSA + "/vtypes.add.xml")
+        for row in (r"program +1 .* over a pipe", r"guard +1 .* 0 of 8 queues exceeded", r"run +1 .* audit: log ok 4"):
+            self.assertRegex(said, row)
+        self.assertEqual((status, mp(*words)[0]), (0, 3))                            # SUMO doesn't know the type of its vehicles
+        bologna = RILSA.replace("RiLSA_example1", "acosta/acosta")
+        mp("import", bologna + "_buslanes.net.xml", "-r", bologna + ".rou.xml", "-a", bologna + "_vtypes.add.xml", "-o", out)
+        words = "(?s)more than 72.5 %.*junction 219 needs 137.9 %.*" if importlib.util.find_spec("scipy") else ""
+        self.assertRegex(mp("explain", out + ".toml")[1], words + "certify says overflow game 3")
 
 @sumo
 class Import(Case):
