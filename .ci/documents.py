@@ -5,7 +5,8 @@ usage: documents.py PROGRAM [DOCUMENT ..]
 
 In a fence ```console each line `$ COMMAND` is typed as it stands, in a copy of the repository that has the program as
 ./maxpressure; the lines up to the next command are its output, standard output and error output together. A line `...`
-stands for one or more lines. The commands of one document share one copy, and follow each other.
+stands for one or more lines. The commands of one document share one copy, and follow each other. A command of tools/ is
+left out where /usr/bin/python3 is older than 3.11.
 """
 import difflib
 import re
@@ -59,6 +60,11 @@ def run(command, folder):
     return ran.stdout.decode(errors="replace").splitlines()
 
 
+def tools_run():
+    """Says whether the commands of tools/ run here: they read TOML, as Python 3.11 does."""
+    return subprocess.run(["bash", "-c", "/usr/bin/python3 -c 'import tomllib' 2> /dev/null"]).returncode == 0
+
+
 def copy_to(folder, program):
     """Makes a copy of the repository, with the program as ./maxpressure and a link in the place of the many files of crates/."""
     shutil.copytree(TOP, folder, ignore=lambda at, names: {".git", "out"} | ({"crates", "maxpressure"} if Path(at) == TOP else set()))
@@ -74,6 +80,9 @@ def check(document, program):
     except ValueError as error:
         print(f"{document.relative_to(TOP)}, {error}")
         return [], 1
+    if any(command.startswith("tools/") for _, command, _ in commands) and not tools_run():
+        print(f"{document.relative_to(TOP)}: the commands of tools/ are left out, since /usr/bin/python3 is older than 3.11")
+        commands = [it for it in commands if not it[1].startswith("tools/")]
     with tempfile.TemporaryDirectory(prefix="documents-") as room:
         folder = Path(room) / "copy"
         if commands:
