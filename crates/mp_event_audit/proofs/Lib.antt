@@ -1,0 +1,6 @@
+pub mod Renewing
+pub mod Standing
+pub mod Timely
+pub mod Logs
+pub mod Differing
+pub mod Taking

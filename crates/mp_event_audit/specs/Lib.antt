@@ -1,0 +1,3 @@
+pub mod RenewedLog
+pub mod Behind
+pub mod Auditing
