@@ -1,0 +1,5 @@
+pub mod Behind
+pub mod Running
+pub mod Keeping
+pub mod Saying
+pub mod Prompt
