@@ -1,5 +1,5 @@
 -- The choice of one junction, where the lowest idle stage and the presses are known.
-use Rattle.std.specs.Prelude.{◌≡◌, ◌≤◌, ℕ, ◌+◌, ◌*◌, ◌%◌, ◌^◌, Bool, cond, not, ◌&&◌, nat_le, nat_lt, List, [], length, sum, sum_by, Option, Some, None, pos}
+use Rattle.std.specs.Prelude.{◌≡◌, ◌≤◌, ℕ, zero, suc, ◌+◌, ◌*◌, ◌%◌, ◌^◌, Bool, true, cond, not, ◌&&◌, nat_le, nat_lt, List, [], length, sum, sum_by, Option, Some, None, pos}
 use Rattle.std.specs.List.{All}
 use Rattle.mp_model.specs.Guard.{Guard, owing}
 use Rattle.mp_model.specs.GuardedRun.{Account, is_change, less_by, needed_in}
@@ -38,6 +38,16 @@ pressed j presses s = sum_by (entry presses) (stage_at j s)
 abbrev pub IsBest : (ℕ → ℕ) → List ℕ → Option Best → Type 0
 IsBest pressure stages None = stages ≡ []
 IsBest pressure stages (Some best) = (1 ≤ length stages) × (best.stage ≡ first_greatest (λ s. pos (pressure s)) stages) × (best.pressure ≡ pressure best.stage)
+
+-- This is a stage with its pressure, and none where its number is 0.
+abbrev pub best_at : ℕ → ℕ → Option Best
+best_at zero pressure = None
+best_at (suc s) pressure = Some (record { stage = suc s; pressure = pressure })
+
+-- One more stage is better than the best so far where that is none, or its pressure is below.
+abbrev pub is_better : ℕ → ℕ → ℕ → Bool
+is_better zero most pressure = true
+is_better (suc s) most pressure = nat_lt most pressure
 
 -- Where changes lose a period, the stage of the period before is kept if it may be taken and twice its pressure is at least the greatest.
 abbrev pub kept_by : ℕ → (ℕ → Bool) → (ℕ → ℕ) → Option ℕ → ℕ → ℕ

@@ -15,7 +15,8 @@ guarded_of s = record {
   stages = s.stages.items;
 }
 
--- A session keeps its guard, and has a flag for each movement.
+-- A session keeps its guard, and has room for a count and a flag for each movement.
 pub record IsSession (s : Inside) : Type 0 where
   pub guarding : IsGuarding (guarded_of s)
+  pub room : length s.counts.items ≡ length s.net.now.movements
   pub places : length s.green.items ≡ length s.net.now.movements

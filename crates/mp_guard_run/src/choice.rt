@@ -1,13 +1,13 @@
 //! The stage that a junction takes: the candidate of greatest pressure, or the stage of the period before.
-ghost use Rattle.std.specs.Prelude.{◌≡◌, ◌≤◌, ◌+◌, ◌*◌, ◌^◌, ◌++◌, ◌∷◌, [], ℕ, List, All, IfSome, Some, filter, find, length};
+ghost use Rattle.std.specs.Prelude.{◌≡◌, ◌≤◌, ◌+◌, ◌*◌, ◌^◌, All, IfSome, filter, length};
 ghost use Rattle.mp_model.specs.Guard.{Guards};
 ghost use Rattle.mp_model.specs.GuardedChoice.{guarded_stage};
-ghost use Rattle.mp_model.specs.GuardedRun.{IsCandidate, is_idle};
+ghost use Rattle.mp_model.specs.GuardedRun.{IsCandidate};
 ghost use Rattle.mp_model.specs.Network.{junction_at, stage_numbers, entry};
 ghost use Rattle.mp_model.specs.NetworkRules.{IsAcceptable};
 ghost use Rattle.mp_press.specs.Queues.{naturals};
 ghost use Rattle.mp_guard_run.specs.Accounts.{IsInOrder};
-ghost use Rattle.mp_guard_run.specs.Choosing.{AreTotals, ArePresses, IsBest, fits_or, kept_by, paying_or, pressed};
+ghost use Rattle.mp_guard_run.specs.Choosing.{AreTotals, ArePresses, IsBest, best_at, fits_or, is_better, kept_by, paying_or, pressed};
 
 use crate::account::Account;
 use crate::idle::lowest_idle;
@@ -64,14 +64,26 @@ fn fits(
     needed + 1 + place(cycle, period) <= cycle
 }
 
-// The better of the best so far and one more stage, which is not taken at a tie.
-fn better(best: Option<Best>, s: StageNo, pressure: u128) -> Best
-    ensures { (f : ℕ → ℕ) (xs : List ℕ) → IsBest f xs best → pressure ≡ f s → IsBest f (xs ++ s ∷ []) (Some result) }
+// One more stage is better than the best so far, which is none where its number is 0.
+#[tactic(auto, using(crate::proofs::Bests::betters))]
+fn is_better(stage: StageNo, most: u128, pressure: u128) -> bool
+    ensures { result ≡ is_better stage most pressure }
 {
-    let this = Best { stage: s, pressure };
-    match best {
-        None => this,
-        Some(b) => { if b.pressure < pressure { this } else { b } }
+    if stage == 0 {
+        return true;
+    }
+    most < pressure
+}
+
+// The stage with its pressure, and none where its number is 0.
+#[tactic(auto, using(crate::proofs::Bests::stood))]
+fn best_at(stage: StageNo, pressure: u128) -> Option<Best>
+    ensures { result ≡ best_at stage pressure }
+{
+    if stage == 0 {
+        None
+    } else {
+        Some(Best { stage, pressure })
     }
 }
 
@@ -96,14 +108,18 @@ fn best_of(
     requires idle { IfSome idle (λ p. (1 ≤ p) × (p ≤ length account.now.owed)) }
     ensures { IsBest (pressed (junction_at net.now j) presses.now) (filter (fits_or guard.now period account.now idle) (stage_numbers (junction_at net.now j))) result }
 {
-    let mut best = None;
+    let mut stage = 0;
+    let mut most = 0u128;
     for i in 0..net.stages(j) {
-        let s = i + 1;
-        if fits(net, guard, period, account, totals, idle, s) {
-            best = Some(better(best, s, pressure(net, j, presses, s)));
+        if fits(net, guard, period, account, totals, idle, i + 1) {
+            let pressure = pressure(net, j, presses, i + 1);
+            if is_better(stage, most, pressure) {
+                stage = i + 1;
+                most = pressure;
+            }
         }
     }
-    best
+    best_at(stage, most)
 }
 
 // The stage of the period before where it is kept, and else the best.

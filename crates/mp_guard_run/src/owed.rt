@@ -15,7 +15,7 @@ use crate::account::Account;
 use crate::choice::{paying, stage_of};
 use crate::idle::lowest_idle;
 use crate::numbers::{cycle, is_change, lost, place};
-use crate::pressing::press_all;
+use crate::pressing::{press_all, queue_links};
 use arrayvec::ArrayVec;
 use mp_cert::places::junction_of;
 use mp_guard::Guard;
@@ -198,8 +198,10 @@ impl Owed {
         ensures known { AreKnown net.now into.new.items }
     {
         let _ = net.shares();
+        let mut queued = ArrayVec::new();
+        queue_links(net, counts, &mut queued);
         let mut presses = ArrayVec::new();
-        press_all(net, counts, &mut presses);
+        press_all(net, counts, &queued, &mut presses);
         let presses = presses.as_slice();
         into.clear();
         for i in 0..net.junctions() {

@@ -23,16 +23,12 @@ use mp_step::{AboveAt, State};
 use std::alloc::Global;
 use std::marker::Model;
 
-// A copy of the queues, which stays while a period closes.
-fn copied(queues: &[i128]) -> ArrayVec<i128, 512>
-    requires { length queues.now ≤ 512 }
-    ensures { result.items ≡ queues.now }
+// Copies the queues, so that they stay while a period closes.
+fn copy(queues: &[i128], into: &mut [i128])
+    requires { length into.old ≡ length queues.now }
+    ensures { into.new ≡ queues.now }
 {
-    let mut copy = ArrayVec::new();
-    for q in queues {
-        copy.push(*q);
-    }
-    copy
+    into.copy_from_slice(queues);
 }
 
 /// A run of max-pressure control under a guard that owes each stage its greens in each cycle.
@@ -44,6 +40,8 @@ pub struct GuardSession<'a> {
     waits: Vec<u128>,
     state: State,
     owed: Owed,
+    // Room for the queues at the begin of a period.
+    counts: Vec<i128>,
     // Room for the flags of the movements that are green.
     green: Vec<bool>,
     // The stages of the last closed period.
@@ -91,6 +89,7 @@ impl<'a> GuardSession<'a> {
             return Err(NoMemory);
         };
         let owed = Owed::new(alloc, net, guard)?;
+        let counts = vec![in alloc; 0i128; usize::from(net.movements())]?;
         let green = vec![in alloc; false; usize::from(net.movements())]?;
         Ok(GuardSession {
             net,
@@ -99,6 +98,7 @@ impl<'a> GuardSession<'a> {
             waits,
             state,
             owed,
+            counts,
             green,
             stages: ArrayVec::new(),
         })
@@ -167,8 +167,8 @@ impl<'a> GuardSession<'a> {
     {
         let _ = self.net.shares();
         let period = self.state.period();
-        let counts = copied(self.state.queues());
-        let counts = counts.as_slice();
+        copy(self.state.queues(), &mut self.counts);
+        let counts = self.counts.as_slice();
         let mut stages = ArrayVec::new();
         self.owed
             .choose(self.net, self.guard, counts, period, &mut stages);

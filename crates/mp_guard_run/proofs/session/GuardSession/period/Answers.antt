@@ -17,11 +17,11 @@ pub returns-clause-step : goal.returns-clause-step
 returns-clause-step c =
     let s : Guarded = guarded_of c.self.inside in
     let stages : List ℕ = c.choose.new.into.items in
-    let queues : naturals c.as_slice-counts.result.now ≡ s.at.queues = ap naturals (c.as_slice-counts.ensures.value ∙ c.copied-counts.ensures) ∙ c.queues.ensures.value in
+    let queues : naturals c.as_slice-counts.result.now ≡ s.at.queues = ap naturals (c.as_slice-counts.ensures.value ∙ with_items_is c.self.inside.counts c.copy.new.into (c.copy.auto.into ∙ c.deref_mut.ensures.len) ∙ c.copy.ensures) ∙ c.queues.ensures.value in
     let chosen : stages ≡ stages_by s.net s.guard (entry s.at.queues) s.at.period s.accounts =
     c.choose.ensures.value ∙ ap (λ qs. stages_by s.net s.guard (entry qs) c.period-period.result s.accounts) queues ∙ ap (λ t. stages_by s.net s.guard (entry s.at.queues) t s.accounts) c.period-period.ensures.value in
     let flags : c.deref-2.result.now ≡ green_flags s.net s.guard s.accounts stages =
-    c.deref-2.ensures.value ∙ with_items_is c.self.inside.green c.put_green.new.green (c.put_green.auto.green ∙ c.deref_mut.ensures.len) ∙ c.put_green.ensures ∙ ap (λ ss. green_flags s.net s.guard s.accounts ss) c.deref.ensures.0 in
+    c.deref-2.ensures.value ∙ with_items_is c.self.inside.green c.put_green.new.green (c.put_green.auto.green ∙ c.deref_mut-2.ensures.len) ∙ c.put_green.ensures ∙ ap (λ ss. green_flags s.net s.guard s.accounts ss) c.deref.ensures.0 in
     let closes : (state : State) → Stands s.net s.at state → Stands s.net c.close_open.new.self (open_step s.net (green_flags s.net s.guard s.accounts stages) (arrivals_of s.net c.args.arrivals.now) state) =
     subst (λ (fs : List Bool). (state : State) → Stands s.net s.at state → Stands s.net c.close_open.new.self (open_step s.net fs (arrivals_of s.net c.args.arrivals.now) state)) flags c.in_ok-close_open.ensures.step in
     let paid : c.pay.new.self ≡ accounts_after s.net s.guard (entry s.at.queues) s.at.period s.accounts stages =
