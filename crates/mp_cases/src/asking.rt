@@ -1,7 +1,6 @@
 //! What the crates below the program answer.
 
 use crate::certificates::{checked, read_certificate, read_vector, weighed};
-use crate::delays::delayed;
 use crate::digits::written;
 use crate::files::{Files, Stop, lines, word};
 use crate::guards::{found, read};
@@ -64,7 +63,6 @@ fn of_network(alloc: Global, command: &str, net: &Net, case: &str) -> Result<Str
         "flows" => Ok(flow_pair(alloc, net)?),
         "worths" => worths(alloc, net, case),
         "constants" => drift_numbers(alloc, net),
-        "delayed" => delayed(alloc, net, case),
         "bounds" => bounds_under(alloc, net, case),
         "rules" => checked(alloc, net, case),
         "weigh" => weighed(alloc, net, case),

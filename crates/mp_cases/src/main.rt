@@ -7,7 +7,6 @@
 mod asking;
 mod calls;
 mod certificates;
-mod delays;
 mod digits;
 mod failing;
 mod files;

@@ -25,7 +25,6 @@ use std::alloc::Global;
 pub fn open_net<St: Store>(alloc: Global, name: &str, store: &mut St) -> Result<Net, Outcome>
     ensures net { IfOk result (λ net. Reads file_meaning (St.files store.old) name.now (λ n. n ≡ net)) }
     ensures acceptable { IfOk result IsAcceptable }
-    ensures prompt { IfOk result (λ net. net.delay ≡ 0) }
     ensures refused { IfErr result (λ outcome. RefusesNetwork outcome (St.files store.old) name.now) }
     ensures outside { IfErr result HasNoPortFault }
     ensures later { St.faults store.old ≤ St.faults store.new }

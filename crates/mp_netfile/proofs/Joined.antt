@@ -24,17 +24,17 @@ movement_names : (names : List (List ℕ)) (movements : List MovementPart) (ms :
 movement_names names movements ms same =
     sym (map-map movement_of (λ (m : Movement). m.name) movements) ∙ ap (map (λ (m : Movement). m.name)) same ∙ map-map (movement_from names) (λ (m : Movement). m.name) ms
 
-abbrev pub the_network : ℕ → ℕ → List Link → List Movement → List Junction → Network
-the_network shares per links movements junctions = record { shares = shares; per = per; delay = 0; links = links; movements = movements; junctions = junctions }
+abbrev pub the_network : ℕ → ℕ → ℕ → List Link → List Movement → List Junction → Network
+the_network shares per delay links movements junctions = record { shares = shares; per = per; delay = delay; links = links; movements = movements; junctions = junctions }
 
-pub parts_joined : (d : Data) (shares per : ℕ) (links : List LinkPart) (movements : List MovementPart) (junctions : List JunctionPart) (ls ms js : List Data)
-    → ls ≡ section (codes "link") d → ms ≡ section (codes "movement") d → js ≡ section (codes "junction") d → shares ≡ number_at (codes "shares") d → per ≡ number_at (codes "per") d
+pub parts_joined : (d : Data) (shares per delay : ℕ) (links : List LinkPart) (movements : List MovementPart) (junctions : List JunctionPart) (ls ms js : List Data)
+    → ls ≡ section (codes "link") d → ms ≡ section (codes "movement") d → js ≡ section (codes "junction") d → shares ≡ number_at (codes "shares") d → per ≡ number_at (codes "per") d → delay ≡ number_at (codes "delay") d
     → map link_of links ≡ map link_from ls → map movement_of movements ≡ map (movement_from (map (λ link. link.name) links)) ms → map junction_of junctions ≡ map (junction_from (map (λ movement. movement.name) movements)) js
-    → the_network shares per (map link_of links) (map movement_of movements) (map junction_of junctions) ≡ network_from d
-parts_joined d shares per links movements junctions ls ms js l m j s p links_are movements_are junctions_are =
+    → the_network shares per delay (map link_of links) (map movement_of movements) (map junction_of junctions) ≡ network_from d
+parts_joined d shares per delay links movements junctions ls ms js l m j s p w links_are movements_are junctions_are =
     let names = link_names links ls links_are in
     let calls = movement_names (map (λ link. link.name) links) movements ms movements_are in
-    rw (links_are, movements_are, junctions_are, names, calls, s, p, l, m, j) refl
+    rw (links_are, movements_are, junctions_are, names, calls, s, p, w, l, m, j) refl
 
 -- a text of a file has few tables in each section
 pub few_tables : (bytes text : List ℕ) (ms : Members) → length bytes ≤ 1048576 → text ≡ bytes → parse_document text ≡ Some ms → HasFewTables (table ms)

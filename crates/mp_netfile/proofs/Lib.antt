@@ -7,6 +7,7 @@ pub mod Rightness
 pub mod Joined
 pub mod Rows
 pub mod Starts
+pub mod Delays
 pub mod Depths
 pub mod Inside
 pub mod ReadBack

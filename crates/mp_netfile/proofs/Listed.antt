@@ -1,14 +1,16 @@
 -- The tree of a network breaks no rule on keys and types.
-use Rattle.std.proofs.Common.{◌≡◌, ℕ, suc, Bool, true, false, if◌then◌else◌, List, [], ◌∷◌, map, None, ◌+◌, refl, arith}
+use Rattle.std.proofs.Common.{◌≡◌, ℕ, suc, Bool, true, false, List, [], ◌∷◌, map, None, ◌+◌, refl, arith}
 use Rattle.std.specs.List.{position_from, list_all, AllByRecursion}
 use Rattle.toml.specs.Data.{Data, string, table}
 use Rattle.mp_model.specs.Network.{Movement as MovementRow, Junction as JunctionRow, Network, movement_at}
-use Rattle.mp_net.specs.declared.fault.Section.TheVariants.{Link, Movement, Junction}
+use Rattle.mp_net.specs.declared.fault.Section.TheVariants.{Top, Link, Movement, Junction}
 use Rattle.mp_tree.specs.Tree.{is_text}
 use Rattle.mp_netfile.specs.Keys.{unknown_key, missing_key, has_unlisted_key, lacks_key, is_array_of_texts}
-use Rattle.mp_netfile.specs.Printed.{link_tree, movement_tree, stage_tree, junction_tree, network_tree, has_start_queue, version_for}
+use Rattle.mp_netfile.specs.Printed.{link_tree, movement_tree, stage_tree, junction_tree, undelayed_members, network_tree, has_start_queue, first_version, version_for}
 use Rattle.mp_netfile.proofs.Starts.{by_start, starts, none_starts, not_above}
-use Rattle.mp_netfile.proofs.ReadBack.{items_list-of, all_tables, section_tables}
+use Rattle.mp_netfile.specs.Values.{version_of}
+use Rattle.mp_netfile.proofs.Delays.{delayed, by_delay}
+use Rattle.mp_netfile.proofs.ReadBack.{items_list-of, all_tables, says-tree}
 
 no_place : {A : Type 0} (test : Data → Bool) (f : A → Data) (i : ℕ) (xs : List A) → ((x : A) → test (f x) ≡ false) → position_from test i (map f xs) ≡ None
 no_place test f i [] h = refl
@@ -19,24 +21,36 @@ none_listed : (net : Network) (i : ℕ) (ms : List MovementRow) → AllByRecursi
 none_listed net i [] all = refl
 none_listed net i (m ∷ ms) all = rw (by_start (λ m. starts m ≡ false → has_unlisted_key 1 Movement (movement_tree net m) ≡ false) m (λ e. refl) (λ n e. absurd (omega (arith, not_above (suc n) e))) all.0, none_listed net (i + 1) ms all.1) refl
 
-listed_movements : (net : Network) → position_from (has_unlisted_key (version_for net) Movement) 1 (map (movement_tree net) net.movements) ≡ None
-listed_movements net = split (has_start_queue net) refl
+-- the files of a version list the keys of a network's table, which names that version
+record Lists (net : Network) (n : ℕ) : Type 0 where
+  version : version_of (table (network_tree net)) ≡ n
+  top : has_unlisted_key n Top (table (network_tree net)) ≡ false
+  movements : position_from (has_unlisted_key n Movement) 1 (map (movement_tree net) net.movements) ≡ None
+
+listed : (net : Network) → Lists net (version_for net)
+listed net = by_delay (λ n. Lists n (version_for n)) net (split (has_start_queue net) refl) (λ n. record { version = refl; top = refl; movements = each 3 (λ m. by_start (λ m. has_unlisted_key 3 Movement (movement_tree net m) ≡ false) m refl (λ n. refl)) })
   where
-    split : (b : Bool) → has_start_queue net ≡ b → position_from (has_unlisted_key (if b then 2 else 1) Movement) 1 (map (movement_tree net) net.movements) ≡ None
-    split true e = no_place (has_unlisted_key 2 Movement) (movement_tree net) 1 net.movements (λ m. by_start (λ m. has_unlisted_key 2 Movement (movement_tree net m) ≡ false) m refl (λ n. refl))
-    split false e = none_listed net 1 net.movements (none_starts net.movements e)
+    each : (version : ℕ) → ((m : MovementRow) → has_unlisted_key version Movement (movement_tree net m) ≡ false) → position_from (has_unlisted_key version Movement) 1 (map (movement_tree net) net.movements) ≡ None
+    each version = no_place (has_unlisted_key version Movement) (movement_tree net) 1 net.movements
+
+    split : (b : Bool) → has_start_queue net ≡ b → Lists (delayed net 0) (first_version 0 b)
+    split true e = record { version = rw e refl; top = refl; movements = each 2 (λ m. by_start (λ m. has_unlisted_key 2 Movement (movement_tree net m) ≡ false) m refl (λ n. refl)) }
+    split false e = record { version = rw e refl; top = refl; movements = none_listed net 1 net.movements (none_starts net.movements e) }
 
 pub unknown_key-tree : (net : Network) → unknown_key (table (network_tree net)) ≡ None
 unknown_key-tree net =
-    let s = section_tables net in
+    let s = says-tree net in
+    let l = listed net in
     rw (
-      s.0,
-      s.1,
-      s.2,
+      l.version,
+      l.top,
+      s.links,
+      s.movements,
+      s.junctions,
       no_place (has_unlisted_key (version_for net) Link) link_tree 1 net.links (λ l. refl),
-      listed_movements net,
+      l.movements,
       no_place (has_unlisted_key (version_for net) Junction) (junction_tree net) 1 net.junctions (λ j. refl),
-    )
+    ) refl
 
 all_pass : {A : Type 0} (test : Data → Bool) (f : A → Data) (xs : List A) → ((x : A) → test (f x) ≡ true) → list_all test (map f xs) ≡ true
 all_pass test f [] h = refl
@@ -51,20 +65,28 @@ lacks_key-junction net j = rw (items_list-of (map (stage_tree net) j.stages), al
 lacks_key-movement : (net : Network) (m : MovementRow) → lacks_key Movement (movement_tree net m) ≡ false
 lacks_key-movement net m = by_start (λ m. lacks_key Movement (movement_tree net m) ≡ false) m refl (λ n. refl)
 
-pub missing_key-tree : (net : Network) → missing_key (table (network_tree net)) ≡ None
-missing_key-tree net =
-    let s = section_tables net in
+-- the table of a network but for its delay has each key that must be there
+top_whole : (net : Network) → lacks_key Top (table (undelayed_members net)) ≡ false
+top_whole net =
     rw (
-      s.0,
-      s.1,
-      s.2,
       items_list-of (map link_tree net.links),
       all_tables link_tree net.links (λ l. refl),
       items_list-of (map (movement_tree net) net.movements),
       all_tables (movement_tree net) net.movements (λ m. refl),
       items_list-of (map (junction_tree net) net.junctions),
       all_tables (junction_tree net) net.junctions (λ j. refl),
+    ) refl
+
+pub missing_key-tree : (net : Network) → missing_key (table (network_tree net)) ≡ None
+missing_key-tree net =
+    let s = says-tree net in
+    let top : lacks_key Top (table (network_tree net)) ≡ false = by_delay (λ n. lacks_key Top (table (network_tree n)) ≡ false) net (top_whole net) (λ n. top_whole net) in
+    rw (
+      top,
+      s.links,
+      s.movements,
+      s.junctions,
       no_place (lacks_key Link) link_tree 1 net.links (λ l. refl),
       no_place (lacks_key Movement) (movement_tree net) 1 net.movements (lacks_key-movement net),
       no_place (lacks_key Junction) (junction_tree net) 1 net.junctions (lacks_key-junction net),
-    )
+    ) refl

@@ -1,5 +1,5 @@
 -- The tree of a network means the network.
-use Rattle.std.proofs.Common.{◌≡◌, ℕ, ◌+◌, ◌-◌, ◌*◌, ◌<◌, zero, suc, Bool, true, false, cond, if◌then◌else◌, not, ◌||◌, List, [], ◌∷◌, length, map, get_or, Option, Some, None, Ok, codes, refl, ap, ◌∙◌, arith}
+use Rattle.std.proofs.Common.{◌≡◌, ℕ, ◌+◌, ◌-◌, ◌*◌, ◌<◌, zero, suc, Bool, true, false, cond, not, ◌||◌, List, [], ◌∷◌, length, map, get_or, Option, Some, None, Ok, codes, refl, ap, sym, ◌∙◌, arith}
 use Rattle.std.specs.List.{position_from, find, range_with_len, AllByRecursion, list_all}
 use Rattle.std.specs.Str.{IsUtf8}
 use Rattle.std.proofs.lemmas.List.{length-map}
@@ -17,17 +17,19 @@ use Rattle.mp_net.specs.declared.fault.Spot.{Spot}
 use Rattle.mp_net.specs.declared.fault.Section.TheVariants.{Top, Link, Movement, Junction}
 use Rattle.mp_tree.specs.Tree.{items, section, text_or_empty}
 use Rattle.mp_netfile.specs.Keys.{unknown_key, missing_key}
-use Rattle.mp_netfile.specs.Meaning.{tree_meaning, tree_rules, tree_of, bad_version, bad_number_in, bad_name_in, has_bad_number, has_bad_name, network_from, texts_of, unless}
-use Rattle.mp_netfile.specs.Values.{is_version}
-use Rattle.mp_netfile.specs.Printed.{link_tree, movement_tree, stage_tree, junction_tree, network_tree, target_name, has_start_queue}
+use Rattle.mp_netfile.specs.Meaning.{tree_meaning, tree_rules, tree_of, bad_version, bad_number_in, bad_name_in, has_bad_integer, has_bad_number, has_bad_name, network_from, texts_of, unless}
+use Rattle.mp_netfile.specs.Values.{is_version, natural}
+use Rattle.mp_netfile.specs.Printed.{link_tree, movement_tree, stage_tree, junction_tree, network_tree, target_name, has_start_queue, first_version}
 use Rattle.mp_netfile.specs.Numbered.{IsLink, IsMovement, IsTarget}
 use Rattle.mp_netfile.proofs.Spotless.{spotless, or_none, each, both, at}
 use Rattle.mp_netfile.proofs.Inside.{between_links, has_stages}
 use Rattle.mp_netfile.proofs.Joined.{map-map}
 use Rattle.mp_netfile.proofs.Known.{link_known, movement_known}
 use Rattle.mp_netfile.proofs.Listed.{unknown_key-tree, missing_key-tree}
-use Rattle.mp_netfile.proofs.ReadBack.{HasEnds, IsPrintable, network_from-tree, section_tables, items_list-of}
+use Rattle.mp_netfile.proofs.ReadBack.{HasEnds, IsPrintable, network_from-tree, says-tree, items_list-of}
+use Rattle.mp_netfile.proofs.Small.{bad_number-below}
 use Rattle.mp_netfile.proofs.Starts.{by_start}
+use Rattle.mp_netfile.proofs.Delays.{by_delay}
 
 -- ---- no rule of the parts is broken
 
@@ -70,7 +72,7 @@ or_false a b ha hb = rw (ha, hb) refl
 
 numbers-tree : (net : Network) → bad_number net ≡ None → bad_number_in (table (network_tree net)) ≡ None
 numbers-tree net none =
-    let s = section_tables net in
+    let s = says-tree net in
     let h = spotless (top_has_bad_number net) (find (link_has_bad_number net) (range_with_len 1 (length net.links))) (find (movement_has_bad_number net) (range_with_len 1 (length net.movements)))
     (find (junction_has_bad_number net) (range_with_len 1 (length net.junctions))) none in
     let j = or_none _ _ h.top in
@@ -81,17 +83,18 @@ numbers-tree net none =
     let bad_link : LinkPart → Bool = λ link. outside 0 10000 link.burst || outside 0 (1000 * net.per) link.rate in
     let bad_movement : MovementPart → Bool = λ movement. outside 1 net.shares movement.share || outside 1 1000 movement.flow || outside 0 1000000 movement.start in
     let bad_junction : JunctionPart → Bool = λ junction. outside 1 16 (length junction.stages) in
+    let integers : has_bad_integer (table (network_tree net)) ≡ false = rw (s.shares, s.per, s.delay) (or_false (outside 1 1000 net.shares || outside 1 3600 net.per) (outside 0 60 net.delay) (or_false (outside 1 1000 net.shares) (outside 1 3600 net.per) p.0 p.1) d.1) in
     let top : has_bad_number net.shares net.per Top (table (network_tree net)) ≡ false =
-    or_false _ _ (or_false _ _ (or_false _ _ (or_false (outside 1 1000 net.shares) (outside 1 3600 net.per) p.0 p.1) (same_length 1 128 link_tree net.links _ s.0 l.1)) (same_length 1 512 (movement_tree net) net.movements _ s.1 m.1)) (same_length 1 64 (junction_tree net) net.junctions _ s.2 j.1) in
+    or_false _ _ (or_false _ _ (or_false _ _ integers (same_length 1 128 link_tree net.links _ s.links l.1)) (same_length 1 512 (movement_tree net) net.movements _ s.movements m.1)) (same_length 1 64 (junction_tree net) net.junctions _ s.junctions j.1) in
     let links : position_from (has_bad_number net.shares net.per Link) 1 (section (codes "link") (table (network_tree net))) ≡ None =
-    rw s.0 (none_placed (has_bad_number net.shares net.per Link) link_tree (λ link. bad_link link ≡ false) 1 net.links (λ link bad. bad) (none_entry bad_link net.links no_link h.links)) in
+    rw s.links (none_placed (has_bad_number net.shares net.per Link) link_tree (λ link. bad_link link ≡ false) 1 net.links (λ link bad. bad) (none_entry bad_link net.links no_link h.links)) in
     let movements : position_from (has_bad_number net.shares net.per Movement) 1 (section (codes "movement") (table (network_tree net))) ≡ None =
-    rw s.1 (none_placed (has_bad_number net.shares net.per Movement) (movement_tree net) (λ movement. bad_movement movement ≡ false) 1 net.movements
+    rw s.movements (none_placed (has_bad_number net.shares net.per Movement) (movement_tree net) (λ movement. bad_movement movement ≡ false) 1 net.movements
     (λ movement. by_start (λ m. bad_movement m ≡ false → has_bad_number net.shares net.per Movement (movement_tree net m) ≡ false) movement (λ bad. bad) (λ n bad. bad)) (none_entry bad_movement net.movements no_movement h.movements)) in
     let junctions : position_from (has_bad_number net.shares net.per Junction) 1 (section (codes "junction") (table (network_tree net))) ≡ None =
-    rw s.2 (none_placed (has_bad_number net.shares net.per Junction) (junction_tree net) (λ junction. bad_junction junction ≡ false) 1 net.junctions (λ junction bad. rw (items_list-of (map (stage_tree net) junction.stages), length-map junction.stages (stage_tree net)) bad)
+    rw s.junctions (none_placed (has_bad_number net.shares net.per Junction) (junction_tree net) (λ junction. bad_junction junction ≡ false) 1 net.junctions (λ junction bad. rw (items_list-of (map (stage_tree net) junction.stages), length-map junction.stages (stage_tree net)) bad)
     (none_entry bad_junction net.junctions no_junction h.junctions)) in
-    nowhere _ _ _ _ top links movements junctions
+    sym (bad_number-below (table (network_tree net)) net.shares net.per (sym (ap natural s.shares)) (sym (ap natural s.per))) ∙ nowhere _ _ _ _ top links movements junctions
 
 -- ---- names
 
@@ -143,14 +146,14 @@ all_stages net a = each (HasStages net) (λ (j : JunctionPart). AllByRecursion (
 
 names-tree : (net : Network) → IsAcceptable net → bad_name_in (table (network_tree net)) ≡ None
 names-tree net a =
-    let s = section_tables net in
+    let s = says-tree net in
     let links : position_from (has_bad_name Link) 1 (section (codes "link") (table (network_tree net))) ≡ None =
-    rw s.0 (none_placed (has_bad_name Link) link_tree (λ link. (is_name link.name ≡ true) × (is_out link.name ≡ false)) 1 net.links (λ link named. or_false _ _ (is_name_not link.name named.0) named.1) a.names.links) in
+    rw s.links (none_placed (has_bad_name Link) link_tree (λ link. (is_name link.name ≡ true) × (is_out link.name ≡ false)) 1 net.links (λ link named. or_false _ _ (is_name_not link.name named.0) named.1) a.names.links) in
     let movements : position_from (has_bad_name Movement) 1 (section (codes "movement") (table (network_tree net))) ≡ None =
-    rw s.1 (none_placed (has_bad_name Movement) (movement_tree net) (λ movement. (is_name movement.name ≡ true) × HasEnds net movement) 1 net.movements (λ movement h. bad_movement_name net movement a h.0 h.1)
+    rw s.movements (none_placed (has_bad_name Movement) (movement_tree net) (λ movement. (is_name movement.name ≡ true) × HasEnds net movement) 1 net.movements (λ movement h. bad_movement_name net movement a h.0 h.1)
     (both (λ movement. is_name movement.name ≡ true) (HasEnds net) (λ movement. (is_name movement.name ≡ true) × HasEnds net movement) net.movements (λ movement name there. (name, there)) a.names.movements (ends net a))) in
     let junctions : position_from (has_bad_name Junction) 1 (section (codes "junction") (table (network_tree net))) ≡ None =
-    rw s.2 (none_placed (has_bad_name Junction) (junction_tree net) (λ j. (is_name j.name ≡ true) × AllByRecursion (AllByRecursion (IsMovement net)) j.stages) 1 net.junctions (λ j h. bad_junction_name net j a h.0 h.1)
+    rw s.junctions (none_placed (has_bad_name Junction) (junction_tree net) (λ j. (is_name j.name ≡ true) × AllByRecursion (AllByRecursion (IsMovement net)) j.stages) 1 net.junctions (λ j h. bad_junction_name net j a h.0 h.1)
     (both (λ j. is_name j.name ≡ true) (λ j. AllByRecursion (AllByRecursion (IsMovement net)) j.stages) (λ j. (is_name j.name ≡ true) × AllByRecursion (AllByRecursion (IsMovement net)) j.stages) net.junctions (λ j name all. (name, all)) a.names.junctions (all_stages net a))) in
     nowhere false _ _ _ refl links movements junctions
 
@@ -165,9 +168,9 @@ printable net a = record {
 }
 
 version_known : (net : Network) → bad_version (table (network_tree net)) ≡ None
-version_known net = split (has_start_queue net)
+version_known net = by_delay (λ n. bad_version (table (network_tree n)) ≡ None) net (split (has_start_queue net)) (λ n. refl)
   where
-    split : (b : Bool) → first_spot (not (is_version (if b then 2 else 1))) None None None ≡ None
+    split : (b : Bool) → first_spot (not (is_version (first_version 0 b))) None None None ≡ None
     split true = refl
     split false = refl
 
@@ -179,11 +182,11 @@ joined d net keys missing version numbers names same later =
     let all : first_broken (tree_rules d) ≡ None = rw (keys, missing, version, numbers, names) hold in
     ap (unless (network_from d)) all ∙ ap (λ (n : Network). unless n None) same
 
-pub tree_meaning-tree : (net : Network) → IsAcceptable net → first_broken (part_rules net) ≡ None → net.delay ≡ 0 → tree_meaning (table (network_tree net)) ≡ Ok net
-tree_meaning-tree net a sound prompt =
+pub tree_meaning-tree : (net : Network) → IsAcceptable net → first_broken (part_rules net) ≡ None → tree_meaning (table (network_tree net)) ≡ Ok net
+tree_meaning-tree net a sound =
     let number = none_of _ _ _ sound in
     let name = none_of _ _ _ number.1 in
-    joined (table (network_tree net)) net (unknown_key-tree net) (missing_key-tree net) (version_known net) (numbers-tree net number.0) (names-tree net a) (network_from-tree net (printable net a) prompt) name.1
+    joined (table (network_tree net)) net (unknown_key-tree net) (missing_key-tree net) (version_known net) (numbers-tree net number.0) (names-tree net a) (network_from-tree net (printable net a)) name.1
 
 pub tree_read : (net : Network) (bytes : List ℕ) → IsUtf8 bytes → parse_document bytes ≡ Some (network_tree net) → tree_of bytes ≡ Some (network_tree net)
 tree_read net bytes utf8 read = rw (is_utf8-from_IsUtf8 bytes utf8, read) refl

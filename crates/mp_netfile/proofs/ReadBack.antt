@@ -1,5 +1,5 @@
 -- The tree of a network reads as the network.
-use Rattle.std.proofs.Common.{◌≡◌, ℕ, true, false, List, [], ◌∷◌, map, Option, Some, None, codes, refl, ap, sym, ◌∙◌}
+use Rattle.std.proofs.Common.{◌≡◌, ℕ, zero, suc, pos, true, false, List, [], ◌∷◌, map, Option, Some, None, codes, refl, ap}
 use Rattle.std.specs.List.{list_all, AllByRecursion}
 use Rattle.toml.specs.Data.{Data, string, table}
 use Rattle.toml.specs.View.{items_of}
@@ -8,9 +8,11 @@ use Rattle.mp_model.specs.Names.{is_out}
 use Rattle.mp_netfile.specs.Numbered.{IsLink, IsMovement, IsTarget}
 use Rattle.mp_tree.specs.Tree.{items, items_list, is_table, section, text_or_empty}
 use Rattle.mp_netfile.specs.Meaning.{number_of, names_of, name_at, texts_of, link_from, target_from, movement_from, junction_from, network_from}
+use Rattle.mp_netfile.specs.Values.{integer_or_zero}
 use Rattle.mp_netfile.proofs.Joined.{map-map}
-use Rattle.mp_netfile.specs.Printed.{link_tree, target_name, movement_tree, stage_tree, junction_tree, network_tree}
+use Rattle.mp_netfile.specs.Printed.{link_tree, target_name, movement_tree, stage_tree, junction_tree, undelayed_members, network_tree}
 use Rattle.mp_netfile.proofs.Starts.{by_start}
+use Rattle.mp_netfile.proofs.Delays.{delayed, by_delay}
 
 -- a movement goes from a link to a target
 abbrev pub HasEnds : Network → Movement → Type 0
@@ -36,15 +38,30 @@ map_same : {A : Type 0} (P : A → Type 0) (f : A → A) (xs : List A) → ((x :
 map_same P f [] h all = refl
 map_same P f (x ∷ xs) h all = rw (h x all.0, map_same P f xs h all.1)
 
-pub section_tables : (net : Network)
-    → (section (codes "link") (table (network_tree net)) ≡ map link_tree net.links)
-    × (section (codes "movement") (table (network_tree net)) ≡ map (movement_tree net) net.movements)
-    × (section (codes "junction") (table (network_tree net)) ≡ map (junction_tree net) net.junctions)
-section_tables net = (
-  rw (items_list-of (map link_tree net.links), all_tables link_tree net.links (λ l. refl)),
-  rw (items_list-of (map (movement_tree net) net.movements), all_tables (movement_tree net) net.movements (λ m. refl)),
-  rw (items_list-of (map (junction_tree net) net.junctions), all_tables (junction_tree net) net.junctions (λ j. refl)),
-)
+-- a table says the numbers and the tables of a network
+pub record Says (net : Network) (d : Data) : Type 0 where
+  pub shares : integer_or_zero (codes "shares") d ≡ pos net.shares
+  pub per : integer_or_zero (codes "per") d ≡ pos net.per
+  pub delay : integer_or_zero (codes "delay") d ≡ pos net.delay
+  pub links : section (codes "link") d ≡ map link_tree net.links
+  pub movements : section (codes "movement") d ≡ map (movement_tree net) net.movements
+  pub junctions : section (codes "junction") d ≡ map (junction_tree net) net.junctions
+
+pub says-tree : (net : Network) → Says net (table (network_tree net))
+says-tree net = by_delay (λ n. Says n (table (network_tree n))) net (with_delay 0) (λ n. with_delay (suc n))
+  where
+    links : section (codes "link") (table (undelayed_members net)) ≡ map link_tree net.links
+    links = rw (items_list-of (map link_tree net.links), all_tables link_tree net.links (λ l. refl))
+
+    movements : section (codes "movement") (table (undelayed_members net)) ≡ map (movement_tree net) net.movements
+    movements = rw (items_list-of (map (movement_tree net) net.movements), all_tables (movement_tree net) net.movements (λ m. refl))
+
+    junctions : section (codes "junction") (table (undelayed_members net)) ≡ map (junction_tree net) net.junctions
+    junctions = rw (items_list-of (map (junction_tree net) net.junctions), all_tables (junction_tree net) net.junctions (λ j. refl))
+
+    with_delay : (n : ℕ) → Says (delayed net n) (table (network_tree (delayed net n)))
+    with_delay zero = record { shares = refl; per = refl; delay = refl; links = links; movements = movements; junctions = junctions }
+    with_delay (suc n) = record { shares = refl; per = refl; delay = refl; links = links; movements = movements; junctions = junctions }
 
 link_from-tree : (link : Link) → link_from (link_tree link) ≡ link
 link_from-tree link = refl
@@ -96,21 +113,13 @@ map_any : {A B : Type 0} (f : A → B) (g : B → A) (xs : List A) → ((x : A) 
 map_any f g [] h = refl
 map_any f g (x ∷ xs) h = rw (h x, map_any f g xs h)
 
--- a network with a delay of 0
-abbrev prompt : Network → Network
-prompt net = record { shares = net.shares; per = net.per; delay = 0; links = net.links; movements = net.movements; junctions = net.junctions }
-
-prompt_from-tree : (net : Network) → IsPrintable net → network_from (table (network_tree net)) ≡ prompt net
-prompt_from-tree net p =
-    let s = section_tables net in
+pub network_from-tree : (net : Network) → IsPrintable net → network_from (table (network_tree net)) ≡ net
+network_from-tree net p =
+    let s = says-tree net in
     let links : map link_from (map link_tree net.links) ≡ net.links = map_any link_tree link_from net.links link_from-tree in
     let link_names : names_of (map link_tree net.links) ≡ map (λ link. link.name) net.links = map-map link_tree (name_at (codes "name")) net.links in
     let movements : map (movement_from (map (λ link. link.name) net.links)) (map (movement_tree net) net.movements) ≡ net.movements =
     map_each (HasEnds net) (movement_tree net) (movement_from (map (λ link. link.name) net.links)) net.movements (movement_from-tree net p) p.ends in
     let junctions : map (junction_from (map (λ m. m.name) net.movements)) (map (junction_tree net) net.junctions) ≡ net.junctions =
     map_each (λ j. AllByRecursion (AllByRecursion (IsMovement net)) j.stages) (junction_tree net) (junction_from (map (λ m. m.name) net.movements)) net.junctions (junction_from-tree net p) p.stages in
-    rw (s.0, s.1, s.2, links, link_names, movement_names net net.movements, movements, junctions)
-
-pub network_from-tree : (net : Network) → IsPrintable net → net.delay ≡ 0 → network_from (table (network_tree net)) ≡ net
-network_from-tree net p none =
-    prompt_from-tree net p ∙ ap (λ n. record { shares = net.shares; per = net.per; delay = n; links = net.links; movements = net.movements; junctions = net.junctions }) (sym none)
+    rw (s.shares, s.per, s.delay, s.links, s.movements, s.junctions, links, link_names, movement_names net net.movements, movements, junctions)

@@ -73,9 +73,11 @@ parts_there d right =
     let h = each_right d right in
     let shares = at_most 1 1000 (number_at (codes "shares") d) h.top.shares in
     let per = at_most 1 3600 (number_at (codes "per") d) h.top.per in
+    let delay = at_most 0 60 (number_at (codes "delay") d) h.top.delay in
     record {
       shares = omega arith;
       per = omega arith;
+      delay = omega arith;
       few_links = at_most 1 128 (length (section (codes "link") d)) h.top.links;
       few_movements = at_most 1 512 (length (section (codes "movement") d)) h.top.movements;
       links = both _ _ IsLinkTable (section (codes "link") d) (λ x numbers names. link_table (number_at (codes "shares") d) (number_at (codes "per") d) x per numbers names) h.links h.link_names;
@@ -104,7 +106,7 @@ numbers_hold d h =
     let to_movement = movement_from (names_of links) in
     let to_junction = junction_from (names_of movements) in
     let top : top_has_bad_number (network_from d) ≡ false =
-    or_false _ _ (or_false _ _ (or_false _ _ (or_false _ _ (or_false _ _ h.top.shares h.top.per) refl) (same_length 1 128 to_link links h.top.links)) (same_length 1 512 to_movement movements h.top.movements)) (same_length 1 64 to_junction junctions h.top.junctions) in
+    or_false _ _ (or_false _ _ (or_false _ _ (or_false _ _ (or_false _ _ h.top.shares h.top.per) h.top.delay) (same_length 1 128 to_link links h.top.links)) (same_length 1 512 to_movement movements h.top.movements)) (same_length 1 64 to_junction junctions h.top.junctions) in
     let bad_link : LinkPart → Bool = λ link. outside 0 10000 link.burst || outside 0 (1000 * per) link.rate in
     let bad_movement : MovementPart → Bool = λ movement. outside 1 shares movement.share || outside 1 1000 movement.flow || outside 0 1000000 movement.start in
     let bad_junction : JunctionPart → Bool = λ junction. outside 1 16 (length junction.stages) in

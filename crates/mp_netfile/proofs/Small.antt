@@ -24,6 +24,7 @@ natural_small low high z h = at_most low high (natural z) (inside low high z h)
 pub record IsTopInRange (top : Data) : Type 0 where
   pub shares : outside 1 1000 (number_at (codes "shares") top) ≡ false
   pub per : outside 1 3600 (number_at (codes "per") top) ≡ false
+  pub delay : outside 0 60 (number_at (codes "delay") top) ≡ false
   pub links : outside 1 128 (length (section (codes "link") top)) ≡ false
   pub movements : outside 1 512 (length (section (codes "movement") top)) ≡ false
   pub junctions : outside 1 64 (length (section (codes "junction") top)) ≡ false
@@ -33,14 +34,19 @@ top_in_range shares per top h =
     let j = or_none _ _ h in
     let m = or_none _ _ j.0 in
     let l = or_none _ _ m.0 in
-    let p = or_none _ _ l.0 in
+    let w = or_none _ _ l.0 in
+    let p = or_none _ _ w.0 in
     record {
       shares = inside 1 1000 (integer_or_zero (codes "shares") top) p.0;
       per = inside 1 3600 (integer_or_zero (codes "per") top) p.1;
+      delay = inside 0 60 (integer_or_zero (codes "delay") top) w.1;
       links = l.1;
       movements = m.1;
       junctions = j.1;
     }
+
+pub shares_in_range : (top : Data) → has_bad_number 0 0 Top top ≡ false → number_at (codes "shares") top ≤ 1000
+shares_in_range top h = at_most 1 1000 (number_at (codes "shares") top) (top_in_range 0 0 top h).shares
 
 pub per_in_range : (top : Data) → has_bad_number 0 0 Top top ≡ false → number_at (codes "per") top ≤ 3600
 per_in_range top h = at_most 1 3600 (number_at (codes "per") top) (top_in_range 0 0 top h).per

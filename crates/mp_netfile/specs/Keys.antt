@@ -7,7 +7,7 @@ use Rattle.mp_net.specs.declared.fault.Section.{Section}
 use Rattle.mp_net.specs.declared.fault.Section.TheVariants.{Top, Link, Movement, Junction}
 use Rattle.mp_net.specs.declared.fault.Spot.{Spot}
 use Rattle.mp_tree.specs.Tree.{has_unknown_key, items, text_at, integer_at, is_text, is_array, is_array_of_tables, section}
-use Rattle.mp_netfile.specs.Values.{version_of, has_starts}
+use Rattle.mp_netfile.specs.Values.{version_of, has_starts, has_delay}
 
 -- This is the first spot where a table breaks a rule, tried at the top table first, then link by link, movement by movement and junction by junction.
 abbrev pub first_table : (Section → Data → Bool) → Data → Option Spot
@@ -19,9 +19,13 @@ first_table breaks tree =
 abbrev pub start_keys : ℕ → List (List ℕ)
 start_keys version = if has_starts version then codes "start" ∷ [] else []
 
+-- These are the keys of the top table that the files of a version list beyond those of version 1.
+abbrev pub delay_keys : ℕ → List (List ℕ)
+delay_keys version = if has_delay version then codes "delay" ∷ [] else []
+
 -- These are the keys that the files of a version list for a table.
 abbrev pub listed_keys : ℕ → Section → List (List ℕ)
-listed_keys version Top = codes "version" ∷ codes "shares" ∷ codes "per" ∷ codes "link" ∷ codes "movement" ∷ codes "junction" ∷ []
+listed_keys version Top = codes "version" ∷ codes "shares" ∷ codes "per" ∷ codes "link" ∷ codes "movement" ∷ codes "junction" ∷ delay_keys version
 listed_keys version Link = codes "name" ∷ codes "burst" ∷ codes "rate" ∷ []
 listed_keys version Movement = codes "name" ∷ codes "from" ∷ codes "to" ∷ codes "share" ∷ codes "flow" ∷ start_keys version
 listed_keys version Junction = codes "name" ∷ codes "stages" ∷ []
@@ -63,7 +67,8 @@ is_no_stages (Some value) = not (is_array value && list_all is_array_of_texts (i
 -- A table lacks a key that must be there, or has another type at a listed key than the listed one.
 abbrev pub lacks_key : Section → Data → Bool
 lacks_key Top row =
-    lacks_integer (codes "version") row || lacks_integer (codes "shares") row || lacks_integer (codes "per") row || lacks_tables (codes "link") row || lacks_tables (codes "movement") row || lacks_tables (codes "junction") row
+    lacks_integer (codes "version") row || lacks_integer (codes "shares") row || lacks_integer (codes "per") row || is_no_integer (get (codes "delay") row)
+    || lacks_tables (codes "link") row || lacks_tables (codes "movement") row || lacks_tables (codes "junction") row
 lacks_key Link row = lacks_text (codes "name") row || is_no_integer (get (codes "burst") row) || is_no_integer (get (codes "rate") row)
 lacks_key Movement row =
     lacks_text (codes "name") row || lacks_text (codes "from") row || lacks_text (codes "to") row || lacks_integer (codes "share") row || lacks_integer (codes "flow") row

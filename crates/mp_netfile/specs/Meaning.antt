@@ -73,7 +73,7 @@ movement_from links movement = record {
 abbrev pub junction_from : List (List ℕ) → Data → Junction
 junction_from movements junction = record { name = name_at (codes "name") junction; stages = map (map (number_of movements)) (stage_texts junction) }
 
--- This is the network of a tree. Its reports are prompt: no version names a delay.
+-- This is the network of a tree. Its delay is 0 where the tree names none.
 abbrev pub network_from : Data → Network
 network_from tree =
     let links = section (codes "link") tree in
@@ -81,7 +81,7 @@ network_from tree =
     record {
       shares = number_at (codes "shares") tree;
       per = number_at (codes "per") tree;
-      delay = 0;
+      delay = number_at (codes "delay") tree;
       links = map link_from links;
       movements = map (movement_from (names_of links)) movements;
       junctions = map (junction_from (names_of movements)) (section (codes "junction") tree);
@@ -98,11 +98,15 @@ abbrev pub is_outside : ℕ → ℕ → ℤ → Bool
 is_outside low high (pos n) = outside low high n
 is_outside low high (negsuc n) = true
 
+-- The share total, the rate length or the delay of a top table is out of its range.
+abbrev pub has_bad_integer : Data → Bool
+has_bad_integer top =
+    is_outside 1 1000 (integer_or_zero (codes "shares") top) || is_outside 1 3600 (integer_or_zero (codes "per") top) || is_outside 0 60 (integer_or_zero (codes "delay") top)
+
 -- A table has an integer that is out of its range, where the file has this share total and rate length, or lists too few or too many things.
 abbrev pub has_bad_number : ℕ → ℕ → Section → Data → Bool
 has_bad_number shares per Top top =
-    is_outside 1 1000 (integer_or_zero (codes "shares") top) || is_outside 1 3600 (integer_or_zero (codes "per") top)
-    || outside 1 128 (length (section (codes "link") top)) || outside 1 512 (length (section (codes "movement") top)) || outside 1 64 (length (section (codes "junction") top))
+    has_bad_integer top || outside 1 128 (length (section (codes "link") top)) || outside 1 512 (length (section (codes "movement") top)) || outside 1 64 (length (section (codes "junction") top))
 has_bad_number shares per LinkSection link = is_outside 0 10000 (integer_or_zero (codes "burst") link) || is_outside 0 (1000 * per) (integer_or_zero (codes "rate") link)
 has_bad_number shares per MovementSection movement =
     is_outside 1 shares (integer_or_zero (codes "share") movement) || is_outside 1 1000 (integer_or_zero (codes "flow") movement)

@@ -19,15 +19,15 @@ abbrev pub target_name : Network → Option ℕ → List ℕ
 target_name net None = codes "out"
 target_name net (Some l) = (link_at net l).name
 
--- These are some members with a start queue above 0 at its key.
-abbrev pub with_start : ℕ → Members → Members
-with_start zero members = members
-with_start (suc n) members = with_member (codes "start") (number (suc n)) members
+-- These are some members with a number at a key where it is above 0.
+abbrev pub with_above_0 : List ℕ → ℕ → Members → Members
+with_above_0 key zero members = members
+with_above_0 key (suc n) members = with_member key (number (suc n)) members
 
 -- This is the table of a movement.
 abbrev pub movement_tree : Network → Movement → Data
 movement_tree net movement =
-    table (with_start movement.start (member (codes "flow") (number movement.flow) (member (codes "from") (string (link_at net movement.from).name) (member (codes "name") (string movement.name)
+    table (with_above_0 (codes "start") movement.start (member (codes "flow") (number movement.flow) (member (codes "from") (string (link_at net movement.from).name) (member (codes "name") (string movement.name)
     (member (codes "share") (number movement.share) (member (codes "to") (string (target_name net movement.to)) no_members))))))
 
 -- This is a stage as an array of names.
@@ -43,14 +43,23 @@ junction_tree net junction =
 abbrev pub has_start_queue : Network → Bool
 has_start_queue net = list_any (λ movement. nat_lt 0 movement.start) net.movements
 
--- This is the first version whose files can say the start queues of a network.
-abbrev pub version_for : Network → ℕ
-version_for net = if has_start_queue net then 2 else 1
+-- This is the first version whose files can say a delay, and start queues where there are some.
+abbrev pub first_version : ℕ → Bool → ℕ
+first_version (suc delay) starts = 3
+first_version zero starts = if starts then 2 else 1
 
--- This is the table of a network.
-abbrev pub network_tree : Network → Members
-network_tree net =
+-- This is the first version whose files can say all of a network.
+abbrev pub version_for : Network → ℕ
+version_for net = first_version net.delay (has_start_queue net)
+
+-- These are the members of the table of a network but for its delay.
+abbrev pub undelayed_members : Network → Members
+undelayed_members net =
     member (codes "junction") (array (items_of (map (junction_tree net) net.junctions)))
     (member (codes "link") (array (items_of (map link_tree net.links)))
     (member (codes "movement") (array (items_of (map (movement_tree net) net.movements)))
     (member (codes "per") (number net.per) (member (codes "shares") (number net.shares) (member (codes "version") (number (version_for net)) no_members)))))
+
+-- This is the table of a network.
+abbrev pub network_tree : Network → Members
+network_tree net = with_above_0 (codes "delay") net.delay (undelayed_members net)

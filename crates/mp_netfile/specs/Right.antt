@@ -37,6 +37,7 @@ pub record IsMovementTable (row : Data) : Type 0 where
 pub record HasParts (tree : Data) : Type 0 where
   pub shares : number_at (codes "shares") tree < 2 ^ 32
   pub per : number_at (codes "per") tree < 2 ^ 32
+  pub delay : number_at (codes "delay") tree < 2 ^ 32
   pub few_links : length (section (codes "link") tree) ≤ 128
   pub few_movements : length (section (codes "movement") tree) ≤ 512
   pub links : AllByRecursion IsLinkTable (section (codes "link") tree)

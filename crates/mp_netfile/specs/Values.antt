@@ -22,8 +22,12 @@ version_of tree = number_at (codes "version") tree
 
 -- A number is a version of network files.
 abbrev pub is_version : ℕ → Bool
-is_version version = version == 1 || version == 2
+is_version version = version == 1 || version == 2 || version == 3
 
 -- The files of a version list start queues.
 abbrev pub has_starts : ℕ → Bool
-has_starts version = version == 2
+has_starts version = version == 2 || version == 3
+
+-- The files of a version list a delay.
+abbrev pub has_delay : ℕ → Bool
+has_delay version = version == 3

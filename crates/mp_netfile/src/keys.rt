@@ -2,7 +2,7 @@
 ghost use Rattle.std.specs.Prelude.{◌≡◌, map, option_map};
 ghost use Rattle.std.specs.List.{list_all};
 ghost use Rattle.toml.specs.View.{view};
-ghost use Rattle.mp_netfile.specs.Values.{has_starts};
+ghost use Rattle.mp_netfile.specs.Values.{has_starts, has_delay};
 ghost use Rattle.mp_netfile.specs.Keys.{has_unlisted_key, lacks_text, lacks_integer, is_no_integer, lacks_tables, is_array_of_texts, is_no_stages, lacks_key};
 
 use mp_net::Section;
@@ -13,7 +13,14 @@ use toml::Value;
 fn has_starts(version: u64) -> bool
     ensures { result ≡ has_starts version }
 {
-    version == 2
+    version == 2 || version == 3
+}
+
+/// Whether the files of the version list a delay.
+fn has_delay(version: u64) -> bool
+    ensures { result ≡ has_delay version }
+{
+    version == 3
 }
 
 /// Whether a table of the section has a key that the files of the version don't list for it.
@@ -21,10 +28,21 @@ pub fn has_unlisted_key(version: u64, section: Section, table: &Value) -> bool
     ensures { result ≡ has_unlisted_key version section (view table.now) }
 {
     match section {
-        Section::Top => has_unknown_key(
-            &["version", "shares", "per", "link", "movement", "junction"],
-            table,
-        ),
+        Section::Top => {
+            if has_delay(version) {
+                has_unknown_key(
+                    &[
+                        "version", "shares", "per", "link", "movement", "junction", "delay",
+                    ],
+                    table,
+                )
+            } else {
+                has_unknown_key(
+                    &["version", "shares", "per", "link", "movement", "junction"],
+                    table,
+                )
+            }
+        }
         Section::Link => has_unknown_key(&["name", "burst", "rate"], table),
         Section::Movement => {
             if has_starts(version) {
@@ -73,6 +91,7 @@ pub fn lacks_key(section: Section, table: &Value) -> bool
             lacks_integer("version", table)
                 || lacks_integer("shares", table)
                 || lacks_integer("per", table)
+                || is_no_integer(table.get("delay"))
                 || lacks_tables("link", table)
                 || lacks_tables("movement", table)
                 || lacks_tables("junction", table)

@@ -196,7 +196,7 @@ pub fn net_parts(alloc: Global, tree: &Value) -> Result<NetParts, NoMemory>
     Ok(NetParts {
         shares: number_at(tree, "shares"),
         per: number_at(tree, "per"),
-        delay: 0,
+        delay: number_at(tree, "delay"),
         links,
         movements,
         junctions,

@@ -7,7 +7,7 @@ ghost use Rattle.mp_model.specs.Network.{link_at, movement_at, junction_at};
 ghost use Rattle.mp_model.specs.NetworkRules.{IsAcceptable};
 ghost use Rattle.mp_net.specs.Parts.{link_of};
 ghost use Rattle.mp_netfile.specs.Meaning.{text_meaning, tree_meaning, tree_of};
-ghost use Rattle.mp_netfile.specs.Printed.{link_tree, target_name, movement_tree, stage_tree, junction_tree, network_tree, with_start, has_start_queue, version_for};
+ghost use Rattle.mp_netfile.specs.Printed.{link_tree, target_name, movement_tree, stage_tree, junction_tree, network_tree, with_above_0, has_start_queue, version_for};
 ghost use Rattle.mp_netfile.specs.Numbered.{IsMovement, IsJunction, IsTarget, IsBetweenLinks};
 
 use mp_net::{JunctionNo, LinkNo, LinkPart, MovementNo, Name, Net, NoMemory};
@@ -56,12 +56,12 @@ fn target_name(alloc: Global, net: &Net, to: Option<LinkNo>) -> Result<Value, No
     }
 }
 
-/// Puts a start queue above 0.
-fn put_start(alloc: Global, table: &mut Table, start: u32) -> Result<(), NoMemory>
-    ensures { OnOk result (table_view table.new ≡ with_start start (table_view table.old)) }
+/// Puts a number that is above 0.
+fn put_above_0(alloc: Global, table: &mut Table, key: &str, number: u32) -> Result<(), NoMemory>
+    ensures { OnOk result (table_view table.new ≡ with_above_0 key.now number (table_view table.old)) }
 {
-    if start > 0 {
-        put(alloc, table, "start", Value::from(start))?;
+    if number > 0 {
+        put(alloc, table, key, Value::from(number))?;
     }
     Ok(())
 }
@@ -85,7 +85,7 @@ fn movement_table(alloc: Global, net: &Net, k: MovementNo) -> Result<Value, NoMe
     put(alloc, &mut table, "to", to)?;
     put(alloc, &mut table, "share", Value::from(movement.share))?;
     put(alloc, &mut table, "flow", Value::from(movement.flow))?;
-    put_start(alloc, &mut table, movement.start)?;
+    put_above_0(alloc, &mut table, "start", movement.start)?;
     Ok(Value::Table(table))
 }
 
@@ -169,12 +169,18 @@ fn has_start_queue(net: &Net) -> bool
 fn version_for(net: &Net) -> u32
     ensures { result ≡ version_for net.now }
 {
-    if has_start_queue(net) { 2 } else { 1 }
+    if net.delay() > 0 {
+        3
+    } else if has_start_queue(net) {
+        2
+    } else {
+        1
+    }
 }
 
 fn network_table(alloc: Global, net: &Net) -> Result<Table, NoMemory>
     ensures tree { IfOk result (λ table. table_view table ≡ network_tree net.now) }
-    ensures means { IfOk result (λ table. net.now.delay ≡ 0 → tree_meaning (toml_table (network_tree net.now)) ≡ Ok net.now) }
+    ensures means { IfOk result (λ table. tree_meaning (toml_table (network_tree net.now)) ≡ Ok net.now) }
 {
     let shares = net.shares();
     let links = link_tables(alloc, net)?;
@@ -187,17 +193,17 @@ fn network_table(alloc: Global, net: &Net) -> Result<Table, NoMemory>
     put(alloc, &mut table, "link", links)?;
     put(alloc, &mut table, "movement", movements)?;
     put(alloc, &mut table, "junction", junctions)?;
+    put_above_0(alloc, &mut table, "delay", net.delay())?;
     Ok(table)
 }
 
-/// The text of a file for the network, of version 2 where some movement has a start queue, and else of
-/// version 1. The order of its keys is that of the crate `toml`.
+/// The text of a file for the network, of version 3 where its delay is above 0, else of version 2 where some
+/// movement has a start queue, and else of version 1. The order of its keys is that of the crate `toml`.
 ///
-/// Where the delay of the network is 0, the text read again, whatever its length, gives an equal network.
-/// No version names another delay yet, so the text leaves it out. `NoMemory` where memory could not be had.
+/// The text read again, whatever its length, gives an equal network. `NoMemory` where memory could not be had.
 pub fn print_net(alloc: Global, net: &Net) -> Result<String, NoMemory>
     ensures tree { IfOk result (λ text. tree_of (string_bytes text) ≡ Some (network_tree net.now)) }
-    ensures means { IfOk result (λ text. net.now.delay ≡ 0 → text_meaning (string_bytes text) ≡ Ok net.now) }
+    ensures means { IfOk result (λ text. text_meaning (string_bytes text) ≡ Ok net.now) }
 {
     let table = network_table(alloc, net)?;
     match toml::table_to_string(alloc, &table) {

@@ -79,7 +79,7 @@ fn unknown_key(tree: &Value) -> Option<Spot>
 fn is_version(version: u64) -> bool
     ensures { result ≡ is_version version }
 {
-    version == 1 || version == 2
+    version == 1 || version == 2 || version == 3
 }
 
 fn bad_version(tree: &Value) -> Option<Spot>
@@ -132,10 +132,9 @@ fn check_tree(tree: &Value) -> Result<(), NetFault>
 /// The network of a file, or the first rule that its bytes break, with the first spot where they do.
 ///
 /// The rules are tried in the order of [`NetRule`], each over the whole file before the next.
-/// `NetFault::NoMemory` says nothing of the file. No version names a delay, so that of the network is 0.
+/// `NetFault::NoMemory` says nothing of the file.
 pub fn read_net(alloc: Global, bytes: &[u8]) -> Result<Net, NetFault>
     ensures ok { IfOk result (λ net. file_meaning bytes.now ≡ Ok net) }
-    ensures prompt { IfOk result (λ net. net.delay ≡ 0) }
     ensures refused { IfErr result (IsFaultOf (file_meaning bytes.now)) }
 {
     let tree = read_tree(alloc, bytes)?;

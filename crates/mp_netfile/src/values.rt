@@ -6,7 +6,7 @@ ghost use Rattle.mp_model.specs.Names.{is_name};
 ghost use Rattle.mp_net.specs.NumberRules.{outside};
 ghost use Rattle.mp_tree.specs.Tree.{items, text_or_empty};
 ghost use Rattle.mp_netfile.specs.Values.{integer_or_zero, number_at};
-ghost use Rattle.mp_netfile.specs.Meaning.{name_at, items_at, texts_of, is_outside, has_bad_number, has_bad_name};
+ghost use Rattle.mp_netfile.specs.Meaning.{name_at, items_at, texts_of, is_outside, has_bad_integer, has_bad_number, has_bad_name};
 
 use mp_net::{Name, Section};
 use mp_tree::{integer_at, items, section, text_at};
@@ -74,6 +74,14 @@ fn outside(low: usize, high: usize, n: usize) -> bool
     n < low || high < n
 }
 
+fn has_bad_integer(top: &Value) -> bool
+    ensures { result ≡ has_bad_integer (view top.now) }
+{
+    is_outside(1, 1000, integer_or_zero(top, "shares"))
+        || is_outside(1, 3600, integer_or_zero(top, "per"))
+        || is_outside(0, 60, integer_or_zero(top, "delay"))
+}
+
 /// Whether a table of the section has a number out of its range. The share total bounds the shares of movements, and the rate length those of links.
 pub fn has_bad_number(shares: u32, per: u32, kind: Section, table: &Value) -> bool
     requires { per ≤ 3600 }
@@ -81,8 +89,7 @@ pub fn has_bad_number(shares: u32, per: u32, kind: Section, table: &Value) -> bo
 {
     match kind {
         Section::Top => {
-            is_outside(1, 1000, integer_or_zero(table, "shares"))
-                || is_outside(1, 3600, integer_or_zero(table, "per"))
+            has_bad_integer(table)
                 || outside(1, 128, section(table, "link").len())
                 || outside(1, 512, section(table, "movement").len())
                 || outside(1, 64, section(table, "junction").len())

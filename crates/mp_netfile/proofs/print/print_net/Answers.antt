@@ -16,11 +16,11 @@ returns-in-Ok-clause-tree c =
     tree_read c.args.net.now _ (IsUtf8-string_bytes c.in-Ok.text) (c.in-Ok.ensures.reads_back (rw tree (members_depth-network_tree c.args.net.now)) ∙ ap Some tree)
 
 pub returns-in-Ok-clause-means : goal.returns-in-Ok-clause-means
-returns-in-Ok-clause-means c = λ prompt.
+returns-in-Ok-clause-means c =
     let tree = c.in_ok-table.ensures.tree in
     let read : tree_of (string_bytes c.in-Ok.text) ≡ Some (network_tree c.args.net.now) =
     tree_read c.args.net.now _ (IsUtf8-string_bytes c.in-Ok.text) (c.in-Ok.ensures.reads_back (rw tree (members_depth-network_tree c.args.net.now)) ∙ ap Some tree) in
-    ap meaning_of read ∙ c.in_ok-table.ensures.means prompt
+    ap meaning_of read ∙ c.in_ok-table.ensures.means
 
 pub unreachable-requires : goal.unreachable-requires
 unreachable-requires c =
