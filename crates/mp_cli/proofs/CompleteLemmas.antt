@@ -9,6 +9,7 @@ use Rattle.mp_model.specs.Guard as model
 use Rattle.mp_model.specs.Load.{ShowsOverload, IsTight, load, capacity}
 use Rattle.mp_model.specs.Log.{end_line}
 use Rattle.mp_model.specs.Network.{Network, entry}
+use Rattle.mp_model.specs.NetworkRules.{IsNetwork}
 use Rattle.mp_model.specs.Plans.{planned_after, planned_lines_from, Plan as PlanOfModel}
 use Rattle.mp_model.specs.Run.{opening}
 use Rattle.mp_model.specs.Slack.{IsSlack, IsGreatestSlack}
@@ -40,7 +41,7 @@ use Rattle.mp_cli.specs.declared.outcome.Outcome.TheVariants.{Done, Store, Netwo
 use Rattle.mp_cli.specs.Auditing.{audit_line, EndsAudit}
 use Rattle.mp_cli.specs.Checking.{RefusesCert}
 use Rattle.mp_cli.specs.Commands.{Command, Run, RunWith, Show, Certify, Check, Refute, Audit, AuditWith, Control, Demo, Scale, Overload, Frames, Plan, Guard, ControlGuard, RunGuard, AuditGuard, Unknown}
-use Rattle.mp_cli.specs.Complete.{IsGoodFile, IsGoodText, IsGoodStream, IsExcessiveStream, IsGoodLog, IsGoodGuardedLog, IsRunnableCert, IsGoodVector, IsAdmittable, IsGrowing, IsRunnableFramesCert, IsPlannable, IsGuardable, CanRun, IsGood, IsExcessive}
+use Rattle.mp_cli.specs.Complete.{IsGoodFile, IsGoodText, IsGoodStream, IsExcessiveStream, IsWholeStream, IsStreamAbove, IsGoodLog, IsGoodGuardedLog, IsRunnableCert, IsGoodVector, IsAdmittable, IsGrowing, IsRunnableFramesCert, IsPlannable, IsGuardable, CanRun, IsGood, IsExcessive}
 use Rattle.mp_cli.specs.Ends.{Means}
 use Rattle.mp_cli.specs.Opening.{Reads, RefusesNetwork, RefusesText}
 use Rattle.mp_cli.specs.Ports.{Files, Ports, IsUntouched, Writes}
@@ -57,11 +58,13 @@ use Rattle.mp_cli.proofs.GuardControlLemmas.{good_guarded}
 use Rattle.mp_cli.proofs.GrowthLemmas.{told_weighed}
 use Rattle.mp_cli.specs.Sessions.{IsUnopened, IsUnaccepted}
 use Rattle.mp_cli.specs.Statuses.{status_of}
-use Rattle.mp_cli.specs.Streaming.{EndsOn, OnRun}
+use Rattle.mp_cli.specs.Running.{RunsTo}
+use Rattle.mp_cli.specs.Streaming.{EndsOn, OnRun, OnEvents}
 use Rattle.mp_press.specs.Queues.{naturals}
 use Rattle.mp_cli.specs.Verdicts.{IsUnadmitted, IsUnfinished, OfAdmitted}
 use Rattle.mp_cli.proofs.ControlLemmas.{good_input}
-use Rattle.mp_cli.proofs.StreamLemmas.{ReadTo, run_reads, arrivals_read, on_run, good_stream, excessive_stream}
+use Rattle.mp_cli.proofs.EventLemmas.{good_events, excessive_events}
+use Rattle.mp_cli.proofs.StreamLemmas.{ReadTo, arrivals_read, on_run, good_stream, excessive_stream}
 use Rattle.mp_cli.proofs.VectorLemmas.{no_sum}
 
 -- a status, unless memory ran out
@@ -248,33 +251,45 @@ guard_reads : (net : Network) (guard : model.Guard) (head : List ℕ) (ports : P
 guard_reads net guard head ports how ends = arrivals_read net (guarded_lines_from net guard (guarded_opening net guard)) (λ A. end_line net (guarded_after net guard (guarded_opening net guard) A).state) head ports how ends
 
 -- a command that can run a stream comes to its run
-run_ends : (n : ℕ) (command : Command) (P : Network → Type 0) (outcome : Outcome) (ports : Ports) → IsQuiet outcome → CanRun command ports.files P → Means command outcome ports
-    → ((net : Network) → P net → OnRun outcome (λ how. ReadTo net how ports.input_before ports.input_after) → EndsIn n outcome) → EndsIn n outcome
-run_ends n (Run net) P outcome ports quiet good means stream =
+run_ends : (n : ℕ) (net : List ℕ) (P : Network → Type 0) (outcome : Outcome) (ports : Ports) → IsQuiet outcome → CanRun (Run net) ports.files P → Means (Run net) outcome ports
+    → ((net : Network) → IsNetwork net → P net → (head : List ℕ) → OnEvents outcome (λ how. RunsTo net head how ports) → EndsIn n outcome) → EndsIn n outcome
+run_ends n net P outcome ports quiet good means stream =
     goes n outcome means (network_memory outcome ports.files net _ quiet good) (λ reads.
     let on = of_good file_meaning ports.files net _ _ good reads in
     goes n outcome on.1 (verdict_memory outcome good.value good.is.0.admitted) (λ admitted.
     goes n outcome (of_admitted good.value _ good.is.0.admitted admitted) (opening_memory outcome good.value good.is.0.admitted.cert good.is.0.under) (λ opens.
-    stream good.value good.is.1 (on_run outcome _ _ (run_reads good.value _ ports) opens.holds.holds.is.1))))
-run_ends n (RunWith net cert) P outcome ports quiet good means stream =
+    stream good.value on.0.network good.is.1 _ opens.holds.holds.is.1)))
+
+run_with_ends : (n : ℕ) (net cert : List ℕ) (P : Network → Type 0) (outcome : Outcome) (ports : Ports) → IsQuiet outcome → CanRun (RunWith net cert) ports.files P → Means (RunWith net cert) outcome ports
+    → ((net : Network) → IsNetwork net → P net → (head : List ℕ) → OnEvents outcome (λ how. RunsTo net head how ports) → EndsIn n outcome) → EndsIn n outcome
+run_with_ends n net cert P outcome ports quiet good means stream =
     goes n outcome means (network_memory outcome ports.files net _ quiet good) (λ reads.
     let on = of_good file_meaning ports.files net _ _ good reads in
     goes n outcome on.1 (text_memory outcome _ (cert_meaning good.value) ports.files cert _ quiet good.is.0) (λ read.
     goes n outcome (of_good (cert_meaning good.value) ports.files cert _ _ good.is.0.file read) (session_memory outcome good.value good.is.0.file.value good.is.0.file.is) (λ opens.
-    stream good.value good.is.1 (on_run outcome _ _ (run_reads good.value _ ports) opens.holds.holds.is))))
-run_ends n (Frames net F) P outcome ports quiet good means stream =
+    stream good.value on.0.network good.is.1 _ opens.holds.holds.is)))
+
+frames_ends : (n : ℕ) (net : List ℕ) (F : ℕ) (P : Network → Type 0) (outcome : Outcome) (ports : Ports) → IsQuiet outcome → CanRun (Frames net F) ports.files P → Means (Frames net F) outcome ports
+    → ((net : Network) → P net → OnRun outcome (λ how. ReadTo net how ports.input_before ports.input_after) → EndsIn n outcome) → EndsIn n outcome
+frames_ends n net F P outcome ports quiet good means stream =
     goes n outcome means (network_memory outcome ports.files net _ quiet good) (λ reads.
     let on = of_good file_meaning ports.files net _ _ good reads in
     goes n outcome on.1 (unframed_memory outcome good.value F good.is.0.framed) (λ framed.
     goes n outcome framed.1 (verdict_memory outcome (frame_network good.value F) good.is.0.admitted) (λ admitted.
     goes n outcome (of_admitted (frame_network good.value F) _ good.is.0.admitted admitted) (frames_memory outcome good.value F good.is.0.admitted.cert good.is.0.under) (λ opens.
     stream good.value good.is.1 (on_run outcome _ _ (frames_read good.value F _ ports) opens.holds.is.1)))))
-run_ends n (Plan net C) P outcome ports quiet good means stream =
+
+plan_ends : (n : ℕ) (net : List ℕ) (C : ℕ) (P : Network → Type 0) (outcome : Outcome) (ports : Ports) → IsQuiet outcome → CanRun (Plan net C) ports.files P → Means (Plan net C) outcome ports
+    → ((net : Network) → P net → OnRun outcome (λ how. ReadTo net how ports.input_before ports.input_after) → EndsIn n outcome) → EndsIn n outcome
+plan_ends n net C P outcome ports quiet good means stream =
     goes n outcome means (network_memory outcome ports.files net _ quiet good) (λ reads.
     let on = of_good file_meaning ports.files net _ _ good reads in
     goes n outcome on.1 (plan_memory outcome good.value C good.is.0) (λ holds.
     stream good.value good.is.1 (on_run outcome _ _ (plan_reads good.value holds.plan _ ports) holds.is)))
-run_ends n (RunGuard net guard) P outcome ports quiet good means stream =
+
+guard_ends : (n : ℕ) (net guard : List ℕ) (P : Network → Type 0) (outcome : Outcome) (ports : Ports) → IsQuiet outcome → CanRun (RunGuard net guard) ports.files P → Means (RunGuard net guard) outcome ports
+    → ((net : Network) → P net → OnRun outcome (λ how. ReadTo net how ports.input_before ports.input_after) → EndsIn n outcome) → EndsIn n outcome
+guard_ends n net guard P outcome ports quiet good means stream =
     goes n outcome means (network_memory outcome ports.files net _ quiet good) (λ reads.
     let on = of_good file_meaning ports.files net _ _ good reads in
     let given = good.is.0.file in
@@ -282,10 +297,20 @@ run_ends n (RunGuard net guard) P outcome ports quiet good means stream =
     goes n outcome (of_good (guard_meaning good.value) ports.files guard _ _ given read) (broken_memory outcome good.value given.value given.is.0) (λ kept.
     goes n outcome kept.1 (bursts_memory outcome good.value given.value given.is.1) (λ runs.
     stream good.value good.is.1 (on_run outcome _ _ (guard_reads good.value given.value _ ports) runs.is)))))
-run_ends n command P outcome ports quiet good means stream = absurd good
 
-good_run : (command : Command) (outcome : Outcome) (ports : Ports) → IsQuiet outcome → CanRun command ports.files (λ n. IsGoodStream n ports.input_before) → Means command outcome ports → EndsIn 0 outcome
-good_run command outcome ports quiet good means = run_ends 0 command (λ n. IsGoodStream n ports.input_before) outcome ports quiet good means (λ n stream ends. inl (good_stream n ports.input_before ports.input_after outcome quiet.read quiet.write stream ends))
+-- a good stream is run to its end, and one above a bucket is refused as that
+module _ (outcome : Outcome) (ports : Ports) (quiet : IsQuiet outcome) where
+  good_run : (net : Network) → IsGoodStream net ports.input_before → OnRun outcome (λ how. ReadTo net how ports.input_before ports.input_after) → EndsIn 0 outcome
+  good_run net stream ends = inl (good_stream net ports.input_before ports.input_after outcome quiet.read quiet.write stream ends)
+
+  excessive_run : (net : Network) → IsExcessiveStream net ports.input_before → OnRun outcome (λ how. ReadTo net how ports.input_before ports.input_after) → EndsIn 8 outcome
+  excessive_run net stream ends = inl (excessive_stream net ports.input_before ports.input_after outcome quiet.read quiet.write stream ends)
+
+  good_event_run : (net : Network) → IsNetwork net → IsGoodStream net ports.input_before ⊎ IsWholeStream net ports.input_before → (head : List ℕ) → OnEvents outcome (λ how. RunsTo net head how ports) → EndsIn 0 outcome
+  good_event_run net ok stream head runs = inl (good_events net head ports outcome quiet.read quiet.write ok stream runs)
+
+  excessive_event_run : (net : Network) → IsNetwork net → IsExcessiveStream net ports.input_before ⊎ IsStreamAbove net ports.input_before → (head : List ℕ) → OnEvents outcome (λ how. RunsTo net head how ports) → EndsIn 8 outcome
+  excessive_event_run net ok stream head runs = inl (excessive_events net head ports outcome quiet.read quiet.write ok stream runs)
 
 -- an audit of a log that does not differ ends with a whole log
 audited : (outcome : Outcome) (ports : Ports) (EndsSo : AuditEnd → Type 0) → IsQuiet outcome → ((n : ℕ) → EndsSo (ended.Differs n) → ⊥) → EndsAudit outcome ports EndsSo → EndsIn 0 outcome
@@ -307,8 +332,8 @@ no_guarded_difference net guard left rest log come n differs =
     absurd (told.2.not_whole (log.whole come))
 
 pub completes : (command : Command) (outcome : Outcome) (ports : Ports) → IsQuiet outcome → IsGood command ports.files ports.input_before → Means command outcome ports → EndsIn 0 outcome
-completes (Run net) outcome ports quiet good means = good_run (Run net) outcome ports quiet good means
-completes (RunWith net cert) outcome ports quiet good means = good_run (RunWith net cert) outcome ports quiet good means
+completes (Run net) outcome ports quiet good means = run_ends 0 net (λ n. IsGoodStream n ports.input_before ⊎ IsWholeStream n ports.input_before) outcome ports quiet good means (good_event_run outcome ports quiet)
+completes (RunWith net cert) outcome ports quiet good means = run_with_ends 0 net cert (λ n. IsGoodStream n ports.input_before ⊎ IsWholeStream n ports.input_before) outcome ports quiet good means (good_event_run outcome ports quiet)
 completes (Show net) outcome ports quiet good means =
     goes 0 outcome means (network_memory outcome ports.files net _ quiet good) (λ reads.
     goes 0 outcome reads.is.1 (λ is. ap status_of is) (λ shows. written_done outcome ports shows.text quiet shows.answers.1))
@@ -359,8 +384,8 @@ completes (Overload net) outcome ports quiet good means =
     let on = of_good file_meaning ports.files net _ _ good reads in
     goes 0 outcome on.1 (overloaded_memory outcome good.value good.is) (λ found.
     goes 0 outcome (of_overloaded good.value _ good.is found) (told_memory outcome good.value good.is) (λ writes. written_done outcome ports _ quiet writes.1.answers.1)))
-completes (Frames net F) outcome ports quiet good means = good_run (Frames net F) outcome ports quiet good means
-completes (Plan net C) outcome ports quiet good means = good_run (Plan net C) outcome ports quiet good means
+completes (Frames net F) outcome ports quiet good means = frames_ends 0 net F (λ n. IsGoodStream n ports.input_before) outcome ports quiet good means (good_run outcome ports quiet)
+completes (Plan net C) outcome ports quiet good means = plan_ends 0 net C (λ n. IsGoodStream n ports.input_before) outcome ports quiet good means (good_run outcome ports quiet)
 completes (Guard net cycle lost d) outcome ports quiet good means =
     goes 0 outcome means (network_memory outcome ports.files net _ quiet good) (λ reads.
     let on = of_good file_meaning ports.files net _ _ good reads in
@@ -373,7 +398,7 @@ completes (ControlGuard net guard) outcome ports quiet good means =
     goes 0 outcome on.1 (text_memory outcome _ (guard_meaning good.value) ports.files guard _ quiet good.is.0) (λ read.
     goes 0 outcome (of_good (guard_meaning good.value) ports.files guard _ _ given read) (broken_memory outcome good.value given.value given.is.0) (λ kept.
     goes 0 outcome kept.1 (bursts_memory outcome good.value given.value given.is.1) (λ controls. inl (good_guarded outcome good.value given.value ports _ quiet.read quiet.write good.is.1 controls.is)))))
-completes (RunGuard net guard) outcome ports quiet good means = good_run (RunGuard net guard) outcome ports quiet good means
+completes (RunGuard net guard) outcome ports quiet good means = guard_ends 0 net guard (λ n. IsGoodStream n ports.input_before) outcome ports quiet good means (good_run outcome ports quiet)
 completes (AuditGuard net guard) outcome ports quiet good means =
     goes 0 outcome means (network_memory outcome ports.files net _ quiet good) (λ reads.
     let on = of_good file_meaning ports.files net _ _ good reads in
@@ -385,4 +410,9 @@ completes (AuditGuard net guard) outcome ports quiet good means =
 completes Unknown outcome ports quiet good means = absurd good
 
 pub exceeds : (command : Command) (outcome : Outcome) (ports : Ports) → IsQuiet outcome → IsExcessive command ports.files ports.input_before → Means command outcome ports → EndsIn 8 outcome
-exceeds command outcome ports quiet given means = run_ends 8 command (λ n. IsExcessiveStream n ports.input_before) outcome ports quiet given means (λ n stream ends. inl (excessive_stream n ports.input_before ports.input_after outcome quiet.read quiet.write stream ends))
+exceeds (Run net) outcome ports quiet given means = run_ends 8 net (λ n. IsExcessiveStream n ports.input_before ⊎ IsStreamAbove n ports.input_before) outcome ports quiet given means (excessive_event_run outcome ports quiet)
+exceeds (RunWith net cert) outcome ports quiet given means = run_with_ends 8 net cert (λ n. IsExcessiveStream n ports.input_before ⊎ IsStreamAbove n ports.input_before) outcome ports quiet given means (excessive_event_run outcome ports quiet)
+exceeds (Frames net F) outcome ports quiet given means = frames_ends 8 net F (λ n. IsExcessiveStream n ports.input_before) outcome ports quiet given means (excessive_run outcome ports quiet)
+exceeds (Plan net C) outcome ports quiet given means = plan_ends 8 net C (λ n. IsExcessiveStream n ports.input_before) outcome ports quiet given means (excessive_run outcome ports quiet)
+exceeds (RunGuard net guard) outcome ports quiet given means = guard_ends 8 net guard (λ n. IsExcessiveStream n ports.input_before) outcome ports quiet given means (excessive_run outcome ports quiet)
+exceeds command outcome ports quiet given means = absurd given

@@ -1,17 +1,23 @@
 -- Where the status is 0 a command has done what it was asked, and its network keeps its promise.
-use Rattle.std.proofs.Common.{◌≡◌, ◌⊎◌, ◌+◌, ℕ, List, [], ◌∷◌, refl, ap, subst, arith, Result, inl, inr, ⊎_elim}
+use Rattle.std.proofs.Common.{◌≡◌, ◌≤◌, ◌⊎◌, ◌+◌, ℕ, List, [], ◌∷◌, length, map, zip, refl, ap, subst, arith, Result, inl, inr, ⊎_elim}
 use Rattle.mp_model.specs.Arrivals.{arrivals_of}
 use Rattle.mp_model.specs.Certificate.{Cert}
 use Rattle.mp_model.specs.Frames.{frame_network, framed_after, framed_lines_from, framed_log, framed_opening}
 use Rattle.mp_model.specs.Log.{text_of, header_lines, end_line}
-use Rattle.mp_model.specs.Network.{Network}
+use Rattle.mp_model.specs.Network.{Network, Junction}
 use Rattle.mp_model.specs.NetworkRules.{IsNetwork, IsAcceptable}
 use Rattle.mp_model.specs.Plans.{plan_header, planned_after, planned_lines_from, planned_log}
+use Rattle.mp_model.specs.Reports.{AllTimely, History, Period, advance_by, first_history, reported_queue, reported_stage, reported_stages}
 use Rattle.mp_model.specs.Run.{advance, greatest_stages, run_from, opening}
 use Rattle.mp_model.specs.Step.{State, queue, queued}
 use Rattle.mp_laws.proofs.Bounds.{all_greatest}
 use Rattle.mp_laws.proofs.Conserved.{step_conserves, conserved}
+use Rattle.mp_laws.proofs.Greatest.{greatest_stage_by_is}
+use Rattle.mp_laws.proofs.Renewed.{closes_periods}
+use Rattle.mp_laws.proofs.StreamEnds.{stream_closes}
 use Rattle.mp_laws.proofs.Tied.{no_greater}
+use Rattle.mp_event_run.proofs.Prompting.{prompt_texts}
+use Rattle.std.specs.List.{AllByRecursion}
 use Rattle.mp_cert.specs.TextMeaning.{cert_meaning, vector_meaning}
 use Rattle.mp_gen.specs.DemoNetwork.{demo_network}
 use Rattle.mp_gen.proofs.Roads.{demo_acceptable}
@@ -34,7 +40,7 @@ use Rattle.mp_guard.specs.Bursts.{bounds_of, waits_of}
 use Rattle.mp_guard.specs.GuardHeader.{guard_header}
 use Rattle.mp_guard_run.specs.Running.{guarded_after, guarded_lines_from}
 use Rattle.mp_model.specs.GuardedChoice.{guarded_opening}
-use Rattle.mp_cli.specs.Headline.{WritesGuarded, Does, IsPeriod, EachPeriod, KeepsPromise, OfNetwork, WritesLog}
+use Rattle.mp_cli.specs.Headline.{WritesGuarded, Does, IsPeriod, EachPeriod, AllGreatestBy, EachReported, KeepsPromise, OfNetwork, WritesLog}
 use Rattle.mp_cli.specs.Opening.{Reads, RefusesNetwork, OnNetwork}
 use Rattle.mp_cli.specs.Ports.{Ports, Files, IsUntouched}
 use Rattle.mp_cli.specs.Sessions.{HoldsWith, HoldsWithGreatest, Opens, OnSession, OnAnySession, AtGreatest, IsUnopened, IsUnaccepted}
@@ -60,7 +66,7 @@ greatest_of outcome net ports P Q never f admitted =
       num = opens.holds.num;
       den = opens.holds.den;
       greatest = under.is.0;
-      holds = record { bounds = under.bounds; are = under.are; room = under.room; within = under.within; is = f opens.holds.num opens.holds.den under.bounds under.is.1 };
+      holds = record { bounds = under.bounds; are = under.are; room = under.room; within = under.within; reported = under.reported; is = f opens.holds.num opens.holds.den under.bounds under.is.1 };
     }
 
 with_cert : (outcome : Outcome) (net : Network) (ports : Ports) (P Q : ℕ → ℕ → List ℕ → Type 0) (cert : Cert) → (IsUnaccepted outcome net cert → ⊥) → ((num den : ℕ) (bounds : List ℕ) → P num den bounds → Q num den bounds)
@@ -73,7 +79,7 @@ with_cert outcome net ports P Q cert never f session =
       num = opens.holds.num;
       den = opens.holds.den;
       slack = opens.holds.slack;
-      holds = record { bounds = under.bounds; are = under.are; room = under.room; within = under.within; is = f opens.holds.num opens.holds.den under.bounds under.is };
+      holds = record { bounds = under.bounds; are = under.are; room = under.room; within = under.within; reported = under.reported; is = f opens.holds.num opens.holds.den under.bounds under.is };
     }
 
 -- behind the end of a run by frames stands the framed log, and behind that of a run by a plan the planned one
@@ -215,9 +221,35 @@ periods_from net ok state balanced (counts ∷ more ∷ A) =
     let period = period_of net ok state counts balanced in
     (period, periods_from net ok (advance net counts state) period.balanced (more ∷ A))
 
+-- so is one by timely reports
+all_greatest_by : (net : Network) (history : History) (js : List Junction) (ages : List (List ℕ)) → length ages ≡ length js → AllByRecursion (λ j. 1 ≤ length j.stages) js → AllGreatestBy net history js ages (map (λ p. reported_stage net history p.0 p.1) (zip js ages))
+all_greatest_by net history [] [] same some = tt
+all_greatest_by net history (j ∷ js) (a ∷ ages) same some =
+    (greatest_stage_by_is net (queue history.now) (reported_queue net history j a) j some.0, all_greatest_by net history js ages (omega (arith, same)) some.1)
+all_greatest_by net history [] (a ∷ ages) same some = absurd (omega (arith, same))
+all_greatest_by net history (j ∷ js) [] same some = absurd (omega (arith, same))
+
+each_reported : (net : Network) → IsNetwork net → (history : History) (before : ℕ) → history.now.total_in ≡ history.now.total_out + queued net history.now → (periods : List Period) → AllTimely net before periods → EachReported net history periods
+each_reported net ok history before balanced [] timely = tt
+each_reported net ok history before balanced (period ∷ periods) timely =
+    let after = step_conserves net ok (reported_stages net history period.ages) (arrivals_of net period.counts) history.now balanced in (
+      record {
+        stages = reported_stages net history period.ages;
+        greatest = all_greatest_by net history net.junctions period.ages timely.0.junctions ok.some_stage;
+        moved = refl;
+        line = refl;
+        balanced = after;
+      },
+      each_reported net ok (advance_by net period history) (before + 1) after periods timely.1,
+    )
+
 promise_of : (net : Network) → IsNetwork net → KeepsPromise net
 promise_of net ok = record {
   periods = λ A permitted. periods_from net ok (opening net) (conserved net ok []).0 A;
+  reported = λ periods permitted timely. each_reported net ok (first_history net) 0 (conserved net ok []).0 periods timely;
+  closes = closes_periods net ok;
+  permitted = λ text. (stream_closes net text).permitted;
+  prompt = λ none. (prompt_texts net ok none).stream_text;
   slack = λ num den greatest cert certifies. no_greater net ok cert certifies greatest.shown.0 num den greatest.shown.1;
 }
 

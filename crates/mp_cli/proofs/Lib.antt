@@ -10,6 +10,8 @@ pub mod GuardStageLemmas
 pub mod GuardRunLemmas
 pub mod AuditLemmas
 pub mod StreamLemmas
+pub mod PlainLemmas
+pub mod EventLemmas
 pub mod FrameLemmas
 pub mod PlanLemmas
 pub mod HeadlineLemmas

@@ -1,5 +1,5 @@
 -- How a command comes to the greatest slack, and to a session under a certificate.
-use Rattle.std.proofs.Common.{◌≡◌, ◌≤◌, ◌<◌, ◌+◌, ◌*◌, ◌+ℤ◌, ◌*ℤ◌, ◌≤ℤ◌, ℕ, ℤ, pos, List, refl, sym, ◌∙◌, ap, subst, arith, nat_abs, unsigned_abs, inl, inr, ⊎_elim, Err, mul-le-mul_left, Some, None, Ok}
+use Rattle.std.proofs.Common.{◌≡◌, ◌≤◌, ◌<◌, ◌+◌, ◌*◌, ◌+ℤ◌, ◌*ℤ◌, ◌≤ℤ◌, ℕ, ℤ, pos, List, map, refl, sym, ◌∙◌, ap, subst, arith, nat_abs, unsigned_abs, inl, inr, ⊎_elim, Err, mul-le-mul_left, Some, None, Ok}
 use Rattle.std.specs.declared.option.Option.{Option}
 use Rattle.std.proofs.lemmas.Int.{ints}
 use Rattle.std.proofs.Math.Nat.{le_of_mul-le-mul_left}
@@ -10,7 +10,10 @@ use Rattle.mp_model.specs.Log.{text_of, header_lines}
 use Rattle.mp_model.specs.Load.{ShowsOverload, load, capacity}
 use Rattle.mp_model.specs.Network.{Network, entry}
 use Rattle.mp_model.specs.NetworkRules.{IsNetwork}
+use Rattle.mp_model.specs.Reports.{AllTimely, Period}
 use Rattle.mp_model.specs.Slack.{IsSlack, IsGreatestSlack}
+use Rattle.mp_laws.proofs.Permitted.{bound_of_run}
+use Rattle.mp_laws.proofs.Reported.{bound_of_reported}
 use Rattle.mp_laws.proofs.Slacks.{lowest_unique}
 use Rattle.mp_laws.proofs.Tied.{slack_is, excess_is, tight, margin_of}
 use Rattle.mp_num.specs.Fraction.{Fraction, numerator, denominator}
@@ -21,10 +24,12 @@ use Rattle.mp_cert.specs.declared.types.CertFault.{CertFault}
 use Rattle.mp_cert.specs.declared.types.CertFault.TheVariants as fault
 use Rattle.mp_cert.proofs.CheckLaw.{first_fault, complete}
 use Rattle.mp_verdict.specs.Laws.{IsAdmitted}
-use Rattle.mp_drift.specs.Bounded.{FindsGreatest}
+use Rattle.mp_drift.specs.Bounded.{FindsGreatest, HoldsBounds}
 use Rattle.mp_drift.specs.Session.{IsRefused, Bounded, IsBounded}
 use Rattle.mp_press.specs.Queues.{naturals}
-use Rattle.mp_run.proofs.BoundLemmas.{naturals_are, stays_within}
+use Rattle.mp_run.proofs.BoundLemmas.{naturals_are}
+use Rattle.mp_session.specs.SessionView.{SessionView, IsBounded as IsBoundedByEvents}
+use Rattle.mp_event_run.specs.Running.{StaysWithin as ReportsStayWithin}
 use Rattle.mp_drift.specs.declared.session.OpenFault.{OpenFault}
 use Rattle.mp_drift.specs.declared.session.OpenFault.TheVariants as opening
 use Rattle.mp_gen.specs.Demonstration.{Demonstrated}
@@ -82,7 +87,7 @@ module _ (net : Network) (cert : Cert) (by : OfAdmitted net (λ c. c ≡ cert)) 
   abbrev with_greatest : (P : ℕ → ℕ → List ℕ → Type 0) → HoldsWith net P cert → HoldsWith net (AtGreatest net P) cert
   with_greatest P holds =
       let greatest = greatest_at holds.num holds.den holds.slack in
-      record { certifies = holds.certifies; num = holds.num; den = holds.den; slack = holds.slack; holds = record { bounds = holds.holds.bounds; are = holds.holds.are; room = holds.holds.room; within = holds.holds.within; is = (greatest, holds.holds.is) } }
+      record { certifies = holds.certifies; num = holds.num; den = holds.den; slack = holds.slack; holds = record { bounds = holds.holds.bounds; are = holds.holds.are; room = holds.holds.room; within = holds.holds.within; reported = holds.holds.reported; is = (greatest, holds.holds.is) } }
 
   -- under the certificate of the greatest slack no rule is broken
   pub on_session : (outcome : Outcome) (ports : Ports) (P : ℕ → ℕ → List ℕ → Type 0) → OnAnySession outcome net cert ports P → OfAdmitted net (λ c. OnSession outcome net c ports (AtGreatest net P))
@@ -144,28 +149,41 @@ pub record Stood (net : Network) (cert : Cert) (num den : ℕ) (bounds : List �
   pub are : AreBounds net num den bounds
   pub room : HasRoom bounds
   pub within : (A : List (List ℕ)) → IsPermitted net A → StaysWithin net bounds A
+  pub reported : (periods : List Period) → IsPermitted net (map (λ period. period.counts) periods) → AllTimely net 0 periods → ReportsStayWithin net bounds periods
 
 pub opens_with : (net : Network) (cert : Cert) (num den : ℕ) (bounds : List ℕ) → Stood net cert num den bounds → (P : ℕ → ℕ → List ℕ → Type 0) → P num den bounds → Opens net P cert
 opens_with net cert num den bounds stood P is = record {
   checked = stood.checked;
-  holds = record { certifies = stood.certifies; num = num; den = den; slack = stood.slack; holds = record { bounds = bounds; are = stood.are; room = stood.room; within = stood.within; is = is } };
+  holds = record { certifies = stood.certifies; num = num; den = den; slack = stood.slack; holds = record { bounds = bounds; are = stood.are; room = stood.room; within = stood.within; reported = stood.reported; is = is } };
   found = stood.found;
 }
+
+-- what stands under an accepted certificate with the bounds of its slack
+stood_by : (net : Network) → IsNetwork net → (cert : Cert) (slack : Fraction) (numbers : List ℤ) → HoldsBounds net (numerator slack) (denominator slack) numbers → check_outcome net cert ≡ Ok tt → Certifies net cert → IsSlack cert (numerator slack) (denominator slack)
+    → FindsGreatest net (numerator slack) (denominator slack) → Stood net cert (numerator slack) (denominator slack) (naturals numbers)
+stood_by net ok cert slack numbers holds checked certifies is found =
+    let list : naturals numbers ≡ holds.bounds = ap naturals holds.listed ∙ naturals_are holds.bounds in
+    record {
+      checked = checked;
+      certifies = certifies;
+      slack = is;
+      found = found;
+      are = subst (λ (bounds : List ℕ). AreBounds net (numerator slack) (denominator slack) bounds) (sym list) holds.are;
+      room = subst HasRoom (sym list) holds.room;
+      within = λ A permitted. subst (λ (bounds : List ℕ). StaysWithin net bounds A) (sym list) (bound_of_run net ok cert certifies (numerator slack) (denominator slack) is holds.bounds holds.are A permitted);
+      reported = λ periods permitted timely. subst (λ (bounds : List ℕ). ReportsStayWithin net bounds periods) (sym list) (bound_of_reported net ok cert certifies (numerator slack) (denominator slack) is holds.bounds holds.are periods permitted timely);
+    }
 
 -- what a session stands for behind its opening
 pub stood_of : (net : Network) (cert : Cert) (s : Bounded) → IsBounded s → s.net ≡ net → check_outcome net cert ≡ Ok tt → Certifies net cert → IsSlack cert (numerator s.slack) (denominator s.slack) → FindsGreatest net (numerator s.slack) (denominator s.slack) → Stood net cert (numerator s.slack) (denominator s.slack) (naturals s.bounds)
 stood_of net cert s bounded same checked certifies slack found =
-    let list : naturals s.bounds ≡ bounded.bounds.bounds = ap naturals bounded.bounds.listed ∙ naturals_are bounded.bounds.bounds in
-    let are = subst (λ (n : Network). AreBounds n (numerator s.slack) (denominator s.slack) bounded.bounds.bounds) same bounded.bounds.are in
-    record {
-      checked = checked;
-      certifies = certifies;
-      slack = slack;
-      found = found;
-      are = subst (λ (bounds : List ℕ). AreBounds net (numerator s.slack) (denominator s.slack) bounds) (sym list) are;
-      room = subst HasRoom (sym list) bounded.bounds.room;
-      within = subst (λ (n : Network). (A : List (List ℕ)) → IsPermitted n A → StaysWithin n (naturals s.bounds) A) same (stays_within s bounded);
-    }
+    stood_by net (subst IsNetwork same bounded.acceptable.network) cert s.slack s.bounds (subst (λ (n : Network). HoldsBounds n (numerator s.slack) (denominator s.slack) s.bounds) same bounded.bounds) checked certifies slack found
+
+-- and one by events
+pub stood_events : (net : Network) (cert : Cert) (s : SessionView) → IsBoundedByEvents s → s.net ≡ net → check_outcome net cert ≡ Ok tt → Certifies net cert → IsSlack cert (numerator s.slack) (denominator s.slack) → FindsGreatest net (numerator s.slack) (denominator s.slack)
+    → Stood net cert (numerator s.slack) (denominator s.slack) (naturals s.bounds)
+stood_events net cert s bounded same checked certifies slack found =
+    stood_by net (subst IsNetwork same bounded.acceptable.network) cert s.slack s.bounds (subst (λ (n : Network). HoldsBounds n (numerator s.slack) (denominator s.slack) s.bounds) same bounded.bounds) checked certifies slack found
 
 -- the header of a session is that of its parts
 pub header_same : (n net : Network) (f slack : Fraction) (b bounds : List ℤ) → n ≡ net → f ≡ slack → b ≡ bounds → text_of (header_lines n (numerator f) (denominator f) (naturals b)) ≡ text_of (header_lines net (numerator slack) (denominator slack) (naturals bounds))

@@ -21,7 +21,7 @@ use Rattle.mp_stream.specs.declared.arrivals.ArrivalsEnd.TheVariants as over
 use Rattle.mp_stream.proofs.BucketLemmas.{permitted_empty}
 use Rattle.mp_stream.proofs.HeadLemmas as headed
 use Rattle.mp_stream.proofs.LineLemmas.{text-append}
-use Rattle.mp_run.specs.Running.{course_of, StartsWith, Finished, RefusedAt, RefusedAbove, HasTooMany, EndsAs}
+use Rattle.mp_run.specs.Running.{StartsWith, Finished, RefusedAt, RefusedAbove, HasTooMany}
 use Rattle.mp_run.specs.declared.run.RunEnd.{RunEnd}
 use Rattle.mp_run.specs.declared.run.RunEnd.TheVariants as end
 use Rattle.mp_run.proofs.AboveLemmas.{not_excessive, not_finished, not_refused_at, not_many}
@@ -102,20 +102,6 @@ module _ {R : Type 0} (net : Network) (run : Course R) (same : (text : List ℕ)
     written = tt;
   }
 
--- so it is of a session's run
-pub run_reads : (net : Network) (head : List ℕ) (ports : Ports) (how : RunEnd) → EndsAs net head how ports.input_before ports.input_after ports.output_before ports.output_after → ReadTo net how ports.input_before ports.input_after
-run_reads net head ports end.Done ends = finished_on net (course_of net) (λ text kinds more s. s) (λ kinds is. is) head _ _ _ _ ends
-run_reads net head ports end.Read ends = tt
-run_reads net head ports end.Write ends = tt
-run_reads net head ports end.LineLimit ends = many_on net (course_of net) (λ text kinds more s. s) (λ kinds is. is) head _ _ _ _ ends
-run_reads net head ports (end.Long n) ends = refused_on net (course_of net) (λ text kinds more s. s) (λ kinds is. is) head _ _ _ _ long_line n ends
-run_reads net head ports (end.Grammar n) ends = refused_on net (course_of net) (λ text kinds more s. s) (λ kinds is. is) head _ _ _ _ bad_line n ends
-run_reads net head ports (end.Above n p l) ends = record {
-  kind = ends.kind;
-  at = refused_on net (course_of net) (λ text kinds more s. s) (λ kinds is. is) head _ _ _ _ ends.kind n ends.at;
-  refused = ends.refused;
-}
-
 module _ (net : Network) (lines : List (List ℕ) → List (List ℕ)) (last : List (List ℕ) → List ℕ) (head : List ℕ) (ports : Ports) where
   abbrev run : Course AboveBucket
   run = arrivals_course net lines last
@@ -123,7 +109,7 @@ module _ (net : Network) (lines : List (List ℕ) → List (List ℕ)) (last : L
   starts : (text : List ℕ) (kinds more : List LineKind) → course.StartsWith run text kinds more → StartsWith net text kinds more
   starts text kinds more s = record { lines = s.lines; taken = s.taken }
 
-  -- and of one over lines of arrivals alone
+  -- so it is of a run over lines of arrivals alone
   pub arrivals_read : (how : RunEnd) → EndsOn run head how ports → ReadTo net how ports.input_before ports.input_after
   arrivals_read end.Done ends = finished_on net run starts (λ kinds is. is) head _ _ _ _ ends
   arrivals_read end.Read ends = tt

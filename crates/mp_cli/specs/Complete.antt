@@ -11,6 +11,8 @@ use Rattle.mp_model.specs.Load.{ShowsOverload, IsTight}
 use Rattle.mp_model.specs.Network.{Network}
 use Rattle.mp_model.specs.Slack.{IsSlack, IsGreatestSlack}
 use Rattle.mp_model.specs.Stream.{LineKind, arrivals_of_kinds}
+use Rattle.mp_model.specs.StreamEnd.{stream_end}
+use Rattle.mp_model.specs.StreamEnd.StreamEnd.{ended, above_in}
 use Rattle.mp_model.specs.WholeLog.{IsWholeLog}
 use Rattle.mp_model.specs.declared.limits.TheConstants.{MOST_FILE_BYTES, MOST_LINES}
 use Rattle.mp_cert.specs.Checking.{check_outcome}
@@ -75,6 +77,21 @@ pub record IsExcessiveStream (net : Network) (left : Option (List ℕ)) : Type 0
   pub period : ℕ
   pub link : ℕ
   pub above : IsAboveAt net text line period link
+
+-- The input is told, and as a stream of hearings, decisions and arrivals it is read to its end.
+pub record IsWholeStream (net : Network) (left : Option (List ℕ)) : Type 0 where
+  pub text : List ℕ
+  pub told : left ≡ Some text
+  pub ends : stream_end net text ≡ ended
+
+-- The input is told, and as a stream of hearings, decisions and arrivals it ends above a bucket.
+pub record IsStreamAbove (net : Network) (left : Option (List ℕ)) : Type 0 where
+  pub text : List ℕ
+  pub told : left ≡ Some text
+  pub line : ℕ
+  pub period : ℕ
+  pub link : ℕ
+  pub ends : stream_end net text ≡ above_in line period link
 
 -- The input is told, and is a whole log of the network with the slack that the fact is true of and the bounds under it.
 pub record IsGoodLog (net : Network) (P : ℕ → ℕ → Type 0) (left : Option (List ℕ)) : Type 0 where
@@ -161,8 +178,8 @@ CanRun command files P = ⊥
 
 -- The files of a command are good, and so is what is to come from the input.
 abbrev pub IsGood : Command → Files → Option (List ℕ) → Type 0
-IsGood (Run net) files left = CanRun (Run net) files (λ n. IsGoodStream n left)
-IsGood (RunWith net cert) files left = CanRun (RunWith net cert) files (λ n. IsGoodStream n left)
+IsGood (Run net) files left = CanRun (Run net) files (λ n. IsGoodStream n left ⊎ IsWholeStream n left)
+IsGood (RunWith net cert) files left = CanRun (RunWith net cert) files (λ n. IsGoodStream n left ⊎ IsWholeStream n left)
 IsGood (Show net) files left = IsGoodFile file_meaning files net (λ n. Unit {0})
 IsGood (Certify net) files left = IsGoodFile file_meaning files net IsAdmittable
 IsGood (Check net cert) files left = IsGoodFile file_meaning files net (λ n. IsGoodText (cert_meaning n) files cert (λ c. check_outcome n c ≡ Ok tt))
@@ -183,4 +200,6 @@ IsGood Unknown files left = ⊥
 
 -- The files of a command are good, and the stream is above a bucket.
 abbrev pub IsExcessive : Command → Files → Option (List ℕ) → Type 0
+IsExcessive (Run net) files left = CanRun (Run net) files (λ n. IsExcessiveStream n left ⊎ IsStreamAbove n left)
+IsExcessive (RunWith net cert) files left = CanRun (RunWith net cert) files (λ n. IsExcessiveStream n left ⊎ IsStreamAbove n left)
 IsExcessive command files left = CanRun command files (λ n. IsExcessiveStream n left)

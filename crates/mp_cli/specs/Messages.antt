@@ -102,6 +102,10 @@ run_words run.LineLimit = codes "lines"
 run_words run.Read = codes "read"
 run_words run.Write = codes "write"
 
+-- These are the words of an event that is refused at a line, of a junction and a link.
+abbrev pub event_words : ℕ → List ℕ → ℕ → ℕ → List ℕ
+event_words n word j l = (((line_text n ++ codes " event ") ++ word) ++ (codes " junction " ++ decimal j)) ++ (codes " link " ++ decimal l)
+
 -- These are the words of an outcome other than a fault of the store.
 abbrev pub words_of : Outcome → List ℕ
 words_of end.Words = codes "words"
@@ -130,6 +134,8 @@ words_of end.NoGuard = codes "guard none"
 words_of (end.FullGuard j) = codes "guard full " ++ decimal j
 words_of end.BurstLimit = codes "sweeps bound"
 words_of (end.Run how) = run_words how
+words_of (end.Stale n j l) = event_words n (codes "stale") j l
+words_of (end.NotAdjacent n j l) = event_words n (codes "notadjacent") j l
 words_of (end.Differs n) = codes "log differs " ++ line_text n
 words_of end.Read = codes "read"
 words_of end.Write = codes "write"

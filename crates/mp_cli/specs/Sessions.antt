@@ -1,9 +1,10 @@
 -- What stands under a certificate: its check, the bounds of its slack, and what no queue exceeds.
-use Rattle.std.specs.Prelude.{◌≡◌, ℕ, List, Err, Some, Ok}
+use Rattle.std.specs.Prelude.{◌≡◌, ℕ, List, map, Err, Some, Ok}
 use Rattle.mp_model.specs.Arrivals.{IsPermitted}
 use Rattle.mp_model.specs.Bounds.{AreBounds, HasRoom}
 use Rattle.mp_model.specs.Certificate.{Cert, Certifies}
 use Rattle.mp_model.specs.Network.{Network}
+use Rattle.mp_model.specs.Reports.{AllTimely, Period}
 use Rattle.mp_model.specs.Slack.{IsSlack, IsGreatestSlack}
 use Rattle.mp_cert.specs.Checking.{check_outcome}
 use Rattle.mp_cert.specs.FirstBroken.{IsFirstFault}
@@ -11,6 +12,7 @@ use Rattle.mp_cert.specs.declared.types.CertFault.{CertFault}
 use Rattle.mp_cert.specs.declared.types.CertFault.TheVariants.{Overflow as PassesCheck}
 use Rattle.mp_drift.specs.Bounded.{FindsGreatest, HasNoRoom}
 use Rattle.mp_drift.specs.Session.{IsUnbounded, PassesBound}
+use Rattle.mp_event_run.specs.Running.{StaysWithin as ReportsStayWithin}
 use Rattle.mp_flow.specs.declared.network.Place.{Place}
 use Rattle.mp_flow.specs.declared.network.Place.TheVariants as at
 use Rattle.mp_run.specs.Running.{StaysWithin}
@@ -20,12 +22,13 @@ use Rattle.mp_cli.specs.declared.outcome.Outcome.TheVariants.{Certificate, Overf
 use Rattle.mp_cli.specs.Outcomes.{broken_rule}
 use Rattle.mp_cli.specs.Ports.{Ports, RefusedOr}
 
--- Under the slack num/den there are bounds that have room; over all permitted arrivals no queue exceeds its bound; and the fact is true of the slack and the bounds.
+-- Under the slack num/den there are bounds that have room; over all permitted arrivals no queue exceeds its bound, nor does any where junctions decide by timely reports; and the fact is true of the slack and the bounds.
 pub record HoldsUnder (net : Network) (num den : ℕ) (P : ℕ → ℕ → List ℕ → Type 0) : Type 0 where
   pub bounds : List ℕ
   pub are : AreBounds net num den bounds
   pub room : HasRoom bounds
   pub within : (A : List (List ℕ)) → IsPermitted net A → StaysWithin net bounds A
+  pub reported : (periods : List Period) → IsPermitted net (map (λ period. period.counts) periods) → AllTimely net 0 periods → ReportsStayWithin net bounds periods
   pub is : P num den bounds
 
 -- A certificate certifies the network, and the fact is true of its slack and the bounds under it.

@@ -3,7 +3,7 @@ use Rattle.std.specs.Prelude.{◌≡◌, ℕ}
 use Rattle.mp_run.specs.declared.run.RunEnd.{RunEnd}
 use Rattle.mp_run.specs.declared.run.RunEnd.TheVariants as end
 use Rattle.mp_cli.specs.declared.outcome.Outcome.{Outcome}
-use Rattle.mp_cli.specs.declared.outcome.Outcome.TheVariants.{Done, Run, Words, Store, Network, LongText, Text, Admitted, Critical, Overloaded, Certificate, BrokenGuard, ZeroVector, WeakVector, NoCertificate, Overflow, GrowthOverflow, PivotLimit, SweepLimit, Uneven, LongFrames, FastFrames, CyclicPlan, FullPlan, PlanOverflow, NoGuard, FullGuard, BurstLimit, Differs, Read, Write, NoMemory}
+use Rattle.mp_cli.specs.declared.outcome.Outcome.TheVariants.{Done, Run, Stale, NotAdjacent, Words, Store, Network, LongText, Text, Admitted, Critical, Overloaded, Certificate, BrokenGuard, ZeroVector, WeakVector, NoCertificate, Overflow, GrowthOverflow, PivotLimit, SweepLimit, Uneven, LongFrames, FastFrames, CyclicPlan, FullPlan, PlanOverflow, NoGuard, FullGuard, BurstLimit, Differs, Read, Write, NoMemory}
 
 -- This is the status of a run's end.
 abbrev pub run_status : RunEnd → ℕ
@@ -19,6 +19,8 @@ run_status end.Write = 11
 abbrev pub status_of : Outcome → ℕ
 status_of Done = 0
 status_of (Run how) = run_status how
+status_of (Stale n j l) = 14
+status_of (NotAdjacent n j l) = 14
 status_of Words = 1
 status_of (Store file) = 2
 status_of (Network rule spot) = 3

@@ -2,7 +2,7 @@
 ghost use Rattle.std.specs.Prelude.{◌≡◌, ◌≤◌, ◌+◌, ◌++◌, ◌∷◌, [], length, codes, decimal};
 ghost use Rattle.mp_edge.specs.Outside.{Tells, Puts, HasCause};
 ghost use Rattle.mp_cli.specs.Commands.{asked};
-ghost use Rattle.mp_cli.specs.Messages.{rule_number, spot_text, kind_text, cert_rule_text, guard_rule_text, place_text, run_words, message_of, words_of, vector_behind};
+ghost use Rattle.mp_cli.specs.Messages.{rule_number, spot_text, kind_text, cert_rule_text, guard_rule_text, place_text, run_words, event_words, message_of, words_of, vector_behind};
 ghost use Rattle.mp_cli.specs.Statuses.{status_of};
 
 use crate::command::{Command, file_of};
@@ -13,7 +13,7 @@ use mp_edge::{Failed, Sink};
 use mp_flow::Place;
 use mp_guard::GuardFault;
 use mp_log::{push_number, push_text};
-use mp_net::{NetRule, Section, Spot};
+use mp_net::{JunctionNo, LinkNo, NetRule, Section, Spot};
 use mp_run::RunEnd;
 use mp_text::LineSink;
 
@@ -182,6 +182,19 @@ fn push_end(line: &mut LineSink, end: RunEnd)
     }
 }
 
+// Appends the words of an event that is refused at a line.
+fn push_event(line: &mut LineSink, number: u64, word: &[u8], junction: JunctionNo, link: LinkNo)
+    requires { (length line.old.held ≤ 100) × (length word.now ≤ 20) }
+    ensures held { line.new.held ≡ line.old.held ++ event_words number word.now junction link }
+    ensures few { length line.new.held ≤ length line.old.held + 200 }
+{
+    push_line(line, number);
+    push_text(line, b" event ");
+    push_text(line, word);
+    push_numbered(line, b" junction ", junction);
+    push_numbered(line, b" link ", link);
+}
+
 // Makes the line of an outcome that has one and is no fault of the store, but for its line feed.
 fn push_message(line: &mut LineSink, outcome: &Outcome)
     requires { line.old.held ≡ [] }
@@ -235,6 +248,16 @@ fn push_message(line: &mut LineSink, outcome: &Outcome)
         Outcome::FullGuard(j) => push_numbered(line, b"guard full ", *j),
         Outcome::BurstLimit => push_text(line, b"sweeps bound"),
         Outcome::Run(end) => push_end(line, *end),
+        Outcome::Stale {
+            line: number,
+            junction,
+            link,
+        } => push_event(line, *number, b"stale", *junction, *link),
+        Outcome::NotAdjacent {
+            line: number,
+            junction,
+            link,
+        } => push_event(line, *number, b"notadjacent", *junction, *link),
         Outcome::Differs { line: number } => {
             push_text(line, b"log differs ");
             push_line(line, *number);

@@ -74,16 +74,35 @@ pub enum Outcome {
     Done,
     /// The run of the stream, or the controller, ended so.
     Run(RunEnd),
+    /// The line of the stream has the junction decide, which has no copy of the link that a decision accepts; the
+    /// link is the least one.
+    Stale {
+        line: u64,
+        junction: JunctionNo,
+        link: LinkNo,
+    },
+    /// The line of the stream has the junction hear the link, which no movement of the junction goes to.
+    NotAdjacent {
+        line: u64,
+        junction: JunctionNo,
+        link: LinkNo,
+    },
     /// The words are not listed.
     Words,
     /// The store met a fault at this file.
     Store(FileRole),
     /// The network file breaks the rule first, there.
-    Network { rule: NetRule, spot: Spot },
+    Network {
+        rule: NetRule,
+        spot: Spot,
+    },
     /// The other file has more than 1,048,576 bytes.
     LongText(TextKind),
     /// The line of the other file is the first that is not in its grammar.
-    Text { kind: TextKind, line: u64 },
+    Text {
+        kind: TextKind,
+        line: u64,
+    },
     /// The network is admitted, where only an overloaded one serves.
     Admitted,
     /// The network is critical, as the vector shows.
@@ -129,7 +148,9 @@ pub enum Outcome {
     /// The bursts of the guard are not at rest after the last sweep.
     BurstLimit,
     /// The line of the input is the first that differs from a log.
-    Differs { line: u64 },
+    Differs {
+        line: u64,
+    },
     /// The input met a fault while a log was read.
     Read,
     /// The output met a fault, where no stream was run.
@@ -159,6 +180,7 @@ pub fn status_of(outcome: &Outcome) -> u8
     match outcome {
         Outcome::Done => 0,
         Outcome::Run(end) => run_status(*end),
+        Outcome::Stale { .. } | Outcome::NotAdjacent { .. } => 14,
         Outcome::Words => 1,
         Outcome::Store(_) => 2,
         Outcome::Network { .. } | Outcome::LongText(_) | Outcome::Text { .. } => 3,

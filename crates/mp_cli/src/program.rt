@@ -105,7 +105,8 @@ fn obey<St: Store, In: Source, Out: Sink>(
 /// long or not in the grammar, 8 for the first period of the stream in which some link does not keep to
 /// its bucket, 9 for more than 2^48 lines, 10 for a fault of the input, 11 for one of the output, 12 where
 /// memory ran out, which comes before the first byte is put, 13 for the first line that differs from a
-/// log, 15 for the limit of sweeps, 16 for the least link on which even arrivals are not permitted, 17 for
+/// log, 14 for the first line of the stream by which a junction hears a link that it does not feed or decides without
+/// a copy that is young enough, 15 for the limit of sweeps, 16 for the least link on which even arrivals are not permitted, 17 for
 /// the least link on a cycle of movements and for the first junction whose greens don't fit into the cycle
 /// of a plan, 18 for a rate length or the least link with a rate that no frame network has, and 19 where no
 /// guard has the denominator, or for the first junction whose greens don't fit into the cycle of a guard.

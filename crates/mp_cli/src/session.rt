@@ -1,12 +1,14 @@
-//! The certificate that a network is admitted with, and the opening of a session under one.
+//! The certificate that a network is admitted with, and the opening of sessions under one.
 ghost use Rattle.std.specs.Prelude.{◌≡◌, IfOk, IfErr, OnOk, []};
 ghost use Rattle.mp_model.specs.Certificate.{HasLengths, Certifies};
+ghost use Rattle.mp_model.specs.EventCore.{core_opening};
 ghost use Rattle.mp_model.specs.Run.{opening};
 ghost use Rattle.mp_model.specs.Slack.{IsSlack};
 ghost use Rattle.mp_cert.specs.Views.{cert_of};
 ghost use Rattle.mp_num.specs.Fraction.{numerator, denominator};
 ghost use Rattle.mp_drift.specs.Bounded.{FindsGreatest};
 ghost use Rattle.mp_drift.specs.Session.{IsAccepted};
+ghost use Rattle.mp_round.specs.RoundView.{core_of};
 ghost use Rattle.mp_step.specs.Standing.{Stands};
 ghost use Rattle.mp_step.specs.Taken.{HasTaken};
 ghost use Rattle.mp_cli.specs.Outcomes.{outcome_of_fault, outcome_of_calculation, outcome_of_opening};
@@ -20,6 +22,7 @@ use mp_cert::{Cert, CertFault};
 use mp_drift::{OpenFault, Session};
 use mp_flow::{CalcFault, Place};
 use mp_net::Net;
+use mp_session::Session as EventSession;
 use std::alloc::Global;
 
 /// The outcome of a certificate that is not accepted.
@@ -85,6 +88,28 @@ pub fn open_session<'a>(alloc: Global, net: &'a Net, cert: &Cert) -> Result<Sess
     ensures inside { IfErr result HasNoFault }
 {
     match Session::open(alloc, net, cert) {
+        Ok(session) => Ok(session),
+        Err(fault) => Err(outcome_of_opening(fault)),
+    }
+}
+
+/// Opens a session by events under a certificate.
+pub fn open_events<'a>(
+    alloc: Global,
+    net: &'a Net,
+    cert: &Cert,
+) -> Result<EventSession<'a>, Outcome>
+    requires { HasLengths net.now (cert_of cert.now) }
+    ensures net { IfOk result (λ s. s.net ≡ net.now) }
+    ensures checked { OnOk result (IsAccepted net.now (cert_of cert.now)) }
+    ensures certifies { IfOk result (λ s. Certifies net.now (cert_of cert.now)) }
+    ensures slack { IfOk result (λ s. IsSlack (cert_of cert.now) (numerator s.slack) (denominator s.slack)) }
+    ensures found { IfOk result (λ s. FindsGreatest net.now (numerator s.slack) (denominator s.slack)) }
+    ensures opening { IfOk result (λ s. core_of s.round ≡ core_opening net.now) }
+    ensures refused { IfErr result (λ outcome. IsUnaccepted outcome net.now (cert_of cert.now)) }
+    ensures inside { IfErr result HasNoFault }
+{
+    match EventSession::open(alloc, net, cert) {
         Ok(session) => Ok(session),
         Err(fault) => Err(outcome_of_opening(fault)),
     }

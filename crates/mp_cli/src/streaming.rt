@@ -7,13 +7,15 @@ ghost use Rattle.mp_cli.specs.Ports.{Files};
 ghost use Rattle.mp_cli.specs.Running.{StreamsUnder};
 ghost use Rattle.mp_cli.specs.Statuses.{status_of};
 
+use crate::ending::outcome_of_run;
 use crate::outcome::Outcome;
-use crate::session::open_session;
+use crate::session::open_events;
 use mp_cert::Cert;
 use mp_edge::{Failed, Sink, Source};
+use mp_event_run::run_stream;
 use mp_log::put_header;
 use mp_net::Net;
-use mp_run::{RunEnd, run_stream};
+use mp_run::RunEnd;
 use std::alloc::Global;
 
 /// Runs the stream under a certificate. All memory is taken before the first byte is put.
@@ -30,14 +32,14 @@ pub fn stream_under<In: Source, Out: Sink>(
     ensures read { status_of result ≡ 10 → Rose (In.faults input.old) (In.faults input.new) }
     ensures write { status_of result ≡ 11 → Rose (Out.faults out.old) (Out.faults out.new) }
 {
-    let mut session = match open_session(alloc, net, cert) {
+    let mut session = match open_events(alloc, net, cert) {
         Ok(session) => session,
         Err(outcome) => return outcome,
     };
-    // A session's state comes with what the session keeps.
-    let _ = session.state();
+    // A session's round comes with what the session keeps.
+    let _ = session.round();
     if let Err(Failed) = put_header(out, session.net(), session.slack(), session.bounds()) {
         return Outcome::Run(RunEnd::Write);
     }
-    Outcome::Run(run_stream(&mut session, input, out))
+    outcome_of_run(run_stream(&mut session, input, out))
 }
