@@ -29,10 +29,11 @@ STEPS = [
     "mp_model.specs.Slack mp_model.specs.Certificate mp_model.specs.Load mp_model.specs.Sums",
     "mp_model.specs.Bounds",
     "mp_model.specs.Arrivals",
-    "mp_model.specs.Run mp_model.specs.Split mp_model.specs.Pressure mp_model.specs.Step",
-    "mp_run.specs.Running.StaysWithin",
-    "mp_stream.specs.Course mp_model.specs.Stream",
-    "mp_stream.specs.Ends mp_run mp_model.specs.Log mp_laws",
+    "mp_model.specs.Run mp_model.specs.Split mp_model.specs.Pressure mp_model.specs.Step mp_model.specs.Reports",
+    "mp_run.specs.Running.StaysWithin mp_event_run.specs.Running.StaysWithin",
+    "mp_stream.specs.Course mp_model.specs.Stream mp_text.specs.Cutting",
+    "mp_model.specs.EventCore mp_model.specs.EventPeriods mp_model.specs.StreamEnd mp_model.specs.StreamPeriods",
+    "mp_stream mp_cli.specs.Running mp_event_run mp_model.specs.Log mp_model.specs.ReportedLog mp_laws",
 ]
 
 USE = re.compile(r"^(?:ghost )?use Rattle\.(?!std\.)([\w.]+?)(?:\.\{(.*)\}| as (\w+))?;?$")

@@ -13,7 +13,7 @@ use Rattle.mp_model.specs.NetworkRules.{IsNetwork}
 use Rattle.mp_model.specs.Plans.{planned_after, planned_lines_from, Plan as PlanOfModel}
 use Rattle.mp_model.specs.Run.{opening}
 use Rattle.mp_model.specs.Slack.{IsSlack, IsGreatestSlack}
-use Rattle.mp_model.specs.WholeLog.{DiffersAt}
+use Rattle.mp_event_audit.specs.RenewedLog.{RenewedDiffersAt}
 use Rattle.mp_model.specs.declared.limits.TheConstants.{MOST_FILE_BYTES}
 use Rattle.mp_cert.specs.Checking.{check_outcome}
 use Rattle.mp_cert.specs.TextMeaning.{cert_meaning, vector_meaning}
@@ -29,7 +29,7 @@ use Rattle.mp_frame_run.specs.Running.{framed_course}
 use Rattle.mp_guard_run.specs.Running.{guarded_after, guarded_course, guarded_lines_from}
 use Rattle.mp_model.specs.GuardedChoice.{guarded_opening}
 use Rattle.mp_plan_run.specs.Running.{plan_course}
-use Rattle.mp_run.specs.Auditing.{AuditsAs}
+use Rattle.mp_event_audit.specs.Auditing.{AuditsAs}
 use Rattle.mp_run.specs.declared.auditing.AuditEnd.{AuditEnd}
 use Rattle.mp_run.specs.declared.auditing.AuditEnd.TheVariants as ended
 use Rattle.mp_run.specs.declared.run.RunEnd.{RunEnd}
@@ -321,7 +321,7 @@ audited outcome ports EndsSo quiet never ends = written_done outcome ports (audi
 -- a whole log does not differ
 no_difference : (net : Network) (P : ℕ → ℕ → Type 0) (num den : ℕ) (bounds : List ℕ) (left rest : Option (List ℕ)) → IsGoodLog net P left → P num den → AreBounds net num den bounds → (n : ℕ) → AuditsAs net num den bounds (ended.Differs n) left rest → ⊥
 no_difference net P num den bounds left rest log is are n differs =
-    let told = subst (λ (l : Option (List ℕ)). Tells l rest (λ text now. DiffersAt net num den bounds text n)) log.told differs in
+    let told = subst (λ (l : Option (List ℕ)). Tells l rest (λ text now. RenewedDiffersAt net num den bounds text n)) log.told differs in
     absurd (told.2.not_whole (log.whole num den bounds is are))
 
 no_guarded_difference : (net : Network) (guard : model.Guard) (left rest : Option (List ℕ)) → IsGoodGuardedLog net guard left → (come : ComeToRest net guard) (n : ℕ)

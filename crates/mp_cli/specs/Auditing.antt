@@ -2,7 +2,7 @@
 use Rattle.std.specs.Prelude.{◌≡◌, ◌++◌, ℕ, List, codes, decimal}
 use Rattle.mp_model.specs.Certificate.{Cert}
 use Rattle.mp_model.specs.Network.{Network}
-use Rattle.mp_run.specs.Auditing.{AuditsAs}
+use Rattle.mp_event_audit.specs.Auditing.{AuditsAs}
 use Rattle.mp_run.specs.declared.auditing.AuditEnd.{AuditEnd}
 use Rattle.mp_run.specs.declared.auditing.AuditEnd.TheVariants as end
 use Rattle.mp_cli.specs.declared.outcome.Outcome.{Outcome}

@@ -13,7 +13,6 @@ use Rattle.mp_model.specs.Slack.{IsSlack, IsGreatestSlack}
 use Rattle.mp_model.specs.Stream.{LineKind, arrivals_of_kinds}
 use Rattle.mp_model.specs.StreamEnd.{stream_end}
 use Rattle.mp_model.specs.StreamEnd.StreamEnd.{ended, above_in}
-use Rattle.mp_model.specs.WholeLog.{IsWholeLog}
 use Rattle.mp_model.specs.declared.limits.TheConstants.{MOST_FILE_BYTES, MOST_LINES}
 use Rattle.mp_cert.specs.Checking.{check_outcome}
 use Rattle.mp_cert.specs.TextMeaning.{cert_meaning, vector_meaning}
@@ -26,6 +25,7 @@ use Rattle.mp_gen.specs.DemoNetwork.{demo_network}
 use Rattle.mp_guard.specs.Bursts.{ComeToRest, bounds_of, waits_of}
 use Rattle.mp_guard.specs.GuardHeader.{guard_header}
 use Rattle.mp_guard.specs.GuardText.{guard_meaning}
+use Rattle.mp_event_audit.specs.RenewedLog.{IsWholeRenewedLog}
 use Rattle.mp_guard_audit.specs.GuardedLog.{IsWholeGuardedLog}
 use Rattle.mp_netfile.specs.Meaning.{file_meaning}
 use Rattle.mp_num.specs.Fraction.{Fraction}
@@ -97,7 +97,7 @@ pub record IsStreamAbove (net : Network) (left : Option (List ℕ)) : Type 0 whe
 pub record IsGoodLog (net : Network) (P : ℕ → ℕ → Type 0) (left : Option (List ℕ)) : Type 0 where
   pub text : List ℕ
   pub told : left ≡ Some text
-  pub whole : (num den : ℕ) (bounds : List ℕ) → P num den → AreBounds net num den bounds → IsWholeLog net num den bounds text
+  pub whole : (num den : ℕ) (bounds : List ℕ) → P num den → AreBounds net num den bounds → IsWholeRenewedLog net num den bounds text
 
 -- The input is told, and is a whole log under the guard, with the bounds by the bursts that come to rest.
 pub record IsGoodGuardedLog (net : Network) (guard : model.Guard) (left : Option (List ℕ)) : Type 0 where

@@ -106,6 +106,7 @@ pub fn open_events<'a>(
     ensures slack { IfOk result (λ s. IsSlack (cert_of cert.now) (numerator s.slack) (denominator s.slack)) }
     ensures found { IfOk result (λ s. FindsGreatest net.now (numerator s.slack) (denominator s.slack)) }
     ensures opening { IfOk result (λ s. core_of s.round ≡ core_opening net.now) }
+    ensures taken { IfOk result (λ s. HasTaken net.now s.round.standing []) }
     ensures refused { IfErr result (λ outcome. IsUnaccepted outcome net.now (cert_of cert.now)) }
     ensures inside { IfErr result HasNoFault }
 {
