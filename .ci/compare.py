@@ -22,7 +22,7 @@ import model
 from model import Account, Guard, Guarded, Link, Movement, Network, State
 
 # The words of each command behind its name, with numbers that it takes.
-COMMANDS = {"frames": ["NET", "2"], "plan": ["NET", "4"], "guard": ["NET", "4", "0", "4"], "runguard": ["NET", "GUARD"],
+COMMANDS = {"run": ["NET"], "audit": ["NET"], "frames": ["NET", "2"], "plan": ["NET", "4"], "guard": ["NET", "4", "0", "4"], "runguard": ["NET", "GUARD"],
             "controlguard": ["NET", "GUARD"], "auditguard": ["NET", "GUARD"]}
 SECONDS = 60
 PERIODS = 40
@@ -176,11 +176,76 @@ def draw_question(draw):
     return draw.choice([1, 2, 3, 4, 5, 6, 8, 12, 20]), draw.randrange(2), draw.choice([1, 4, 10, 60, 100, 1000])
 
 
+def draw_events(draw, net):
+    """Lines of a stream: in each period junctions hear links and decide, or leave it to the line of arrivals, in any order.
+    Most decide on copies that are young enough; a line in some hundreds is refused."""
+    run, lines = model.Events(net), []
+    for arrivals in draw_stream(draw, net):
+        own = []
+        for j in range(len(net.junctions)):
+            heard = [("hear", j, l) for l in net.targets(j) * 2 if draw.random() < 0.6]
+            draw.shuffle(heard)
+            own.append(heard + [("decide", j)] * draw.choice([0, 1, 1, 2]))
+        order = [j for j, events in enumerate(own) for _ in events]
+        draw.shuffle(order)
+        for j in order:
+            event = own[j].pop(0)
+            if event[0] == "hear":
+                run.hear(*event[1:])
+            elif run.decided[j] is not None or run.stale(j) is None:
+                run.decide(j)
+            elif draw.random() < 0.99:
+                continue
+            lines.append(event)
+        if draw.random() < 0.005:
+            lines.append(("hear", draw.randrange(len(net.junctions)), draw.randrange(len(net.links))))
+        lines += [("close", *arrivals)] + [("skip",)] * (draw.random() < 0.1)
+        run.close(arrivals)
+    return lines
+
+
+def line_text(kind, *numbers):
+    if kind == "skip":
+        return "# a comment"
+    return ",".join(map(str, numbers)) if kind == "close" else " ".join([kind, *(str(it + 1) for it in numbers)])
+
+
 # What is compared
 
 
 def csv(rows):
     return "".join(",".join(map(str, row)) + "\n" for row in rows)
+
+
+def by_events(program, net, draw):
+    """The network with reports that may be some periods old, its file, and the header of its log, if it has one."""
+    late = Network(net.shares, net.per, net.links, net.movements, net.junctions, draw.choice([0, 0, 1, 2, 5, 60]))
+    file = program.file("late", late.text())
+    opened = program.ask(["run", file])
+    return late, file, None if opened.status else opened.out.splitlines()[:-1]
+
+
+def run(program, net, _, draw):
+    late, file, header = by_events(program, net, draw)
+    if header is None:
+        return
+    lines = draw_events(draw, late)
+    log, status, refusal = model.run_by_events(late, lines)
+    yield ["run", file], text_of(line_text(*it) for it in lines), Answer(status, text_of(header + log), refusal and refusal + "\n")
+
+
+def audit(program, net, _, draw):
+    late, file, header = by_events(program, net, draw)
+    if header is None:
+        return
+    lines, status, _ = model.run_by_events(late, [("close", *arrivals) for arrivals in draw_stream(draw, late)])
+    if status:
+        return
+    log = header + lines
+    yield ["audit", file], text_of(log), printed([f"log ok {len(lines) - 1}"])
+    wrong = draw.randrange(len(log))
+    log[wrong] += "1"
+    yield ["audit", file], text_of(log), refused(13, f"log differs line {wrong + 1}")
 
 
 def frames(program, net, file, draw):
@@ -272,7 +337,7 @@ def auditguard(program, net, file, draw):
 
 
 # Each yields words, an input and the answer that is wanted.
-COMPARED = frames, plan, guard, runguard, controlguard, auditguard
+COMPARED = run, audit, frames, plan, guard, runguard, controlguard, auditguard
 
 
 def difference(got, want):

@@ -1,4 +1,4 @@
-"""A slow model of signals by frames, by cyclic plans and under guards, written apart from the program.
+"""A slow model of signals by events, by frames, by cyclic plans and under guards, written apart from the program.
 
 It takes the definitions word for word, in whole numbers and fractions of any size. Links, movements, junctions and stages
 are numbered from 0 here, and from 1 in what the program prints. A log is a list of lines without their line feeds.
@@ -26,10 +26,12 @@ class Movement(NamedTuple):
 
 
 class Network:
-    """Links, movements, and for each junction its stages, which are lists of movement numbers."""
+    """Links, movements, for each junction its stages, which are lists of movement numbers, and how many periods old a report
+    may be."""
 
-    def __init__(self, shares, per, links, movements, junctions):
+    def __init__(self, shares, per, links, movements, junctions, delay=0):
         self.shares, self.per, self.links, self.movements, self.junctions = shares, per, links, movements, junctions
+        self.delay = delay
         self.fed = [l for l, link in enumerate(links) if link.burst or link.rate]
         self.out_of = [[k for k, it in enumerate(movements) if it.origin == l] for l in range(len(links))]
         self.into = [[k for k, it in enumerate(movements) if it.target == l] for l in range(len(links))]
@@ -51,9 +53,14 @@ class Network:
     def pressure(self, counts, stage):
         return sum(self.movements[k].flow * max(0, self.weight(counts, k)) for k in stage)
 
+    def targets(self, j):
+        """The links that the movements of a junction go to."""
+        return sorted({self.movements[k].target for stage in self.junctions[j] for k in stage} - {None})
+
     def text(self):
-        """The network file, of version 2 where a queue waits at the start."""
-        out = [f"version = {2 if any(it.start for it in self.movements) else 1}", f"shares = {self.shares}", f"per = {self.per}"]
+        """The network file, of version 3 where reports may be old, else of version 2 where a queue waits at the start."""
+        version = 3 if self.delay else 2 if any(it.start for it in self.movements) else 1
+        out = [f"version = {version}", *([f"delay = {self.delay}"] if self.delay else []), f"shares = {self.shares}", f"per = {self.per}"]
         for link in self.links:
             out += ["[[link]]", f'name = "{link.name}"', f"burst = {link.burst}", f"rate = {link.rate}"]
         for it in self.movements:
@@ -174,6 +181,76 @@ def run(net, stream, lights):
         state.close(arrivals, green)
         lines.append(state.line(arrivals, stages))
     return lines + [state.end()], None
+
+
+# Events
+
+
+class Events:
+    """A run whose junctions hear links and decide: by their own queues of now, and by copies of the others."""
+
+    def __init__(self, net):
+        self.net, self.state = net, State(net)
+        self.copies, self.decided = [{} for _ in net.junctions], [None] * len(net.junctions)
+
+    def stale(self, j):
+        """The least link of which a junction has no copy that is young enough, or None."""
+        old = lambda l: l not in self.copies[j] or self.copies[j][l][0] + self.net.delay < self.state.period
+        return next((l for l in self.net.targets(j) if old(l)), None)
+
+    def hear(self, j, l):
+        """Copies the queues of a link, where some movement of the junction goes to it."""
+        if l not in self.net.targets(j):
+            return False
+        self.copies[j][l] = self.state.period, {k: self.state.queues[k] for k in self.net.out_of[l]}
+        return True
+
+    def decide(self, j):
+        """Fixes the stage of a junction, where it has none and lacks no copy."""
+        heard = {k: count for _, counts in self.copies[j].values() for k, count in counts.items()}
+        if self.decided[j] is None:
+            self.decided[j] = greatest({s: sum(self.press(k, heard) for k in stage) for s, stage in enumerate(self.net.junctions[j])})
+
+    def press(self, k, heard):
+        """The flow of a movement times its weight, where that is above 0."""
+        net, it = self.net, self.net.movements[k]
+        behind = 0 if it.target is None else sum(net.movements[i].share * heard[i] for i in net.out_of[it.target])
+        return it.flow * max(0, net.shares * self.state.queues[k] - behind)
+
+    def close(self, arrivals):
+        """Does what the period lacks, and closes it: the line of the period, or the link that is above its bucket."""
+        for j, stage in enumerate(self.decided):
+            while stage is None and self.stale(j) is not None:
+                self.hear(j, self.stale(j))
+            self.decide(j)
+        link = self.state.above(arrivals)
+        if link is not None:
+            return link
+        net, queues = self.net, list(self.state.queues)
+        shown = [net.junctions[j][s] for j, s in enumerate(self.decided)]
+        self.state.close(arrivals, [k in shown[net.junction_of[k]] and net.weight(queues, k) > 0 for k in range(len(queues))])
+        line = self.state.line(arrivals, [s + 1 for s in self.decided])
+        self.decided = [None] * len(net.junctions)
+        return line
+
+
+def run_by_events(net, lines):
+    """What a run writes of lines of the stream, which are tuples, its status, and the line of its refusal."""
+    run, out = Events(net), []
+    for number, (kind, *rest) in enumerate(lines, 1):
+        if kind == "hear" and not run.hear(*rest):
+            return out, 14, f"line {number} event notadjacent junction {rest[0] + 1} link {rest[1] + 1}"
+        if kind == "decide":
+            lacks = run.stale(rest[0]) if run.decided[rest[0]] is None else None
+            if lacks is not None:
+                return out, 14, f"line {number} event stale junction {rest[0] + 1} link {lacks + 1}"
+            run.decide(rest[0])
+        if kind == "close":
+            closed = run.close(rest)
+            if not isinstance(closed, str):
+                return out, 8, f"line {number} above period {run.state.period + 1} link {closed + 1}"
+            out.append(closed)
+    return out + [run.state.end()], 0, ""
 
 
 # Frames
