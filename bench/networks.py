@@ -3,6 +3,7 @@
 
   bench/networks.py KIND SIZE            prints a network file
   bench/networks.py KIND SIZE PERIODS    prints a stream of permitted arrivals for it
+  bench/networks.py KIND SIZE PERIODS events    the same, with lines by which each junction hears and decides in each period
 
 KIND and SIZE:
   links N       N links that meet at one junction, each with a stage of its own
@@ -155,10 +156,24 @@ def stream(network, periods):
         yield ",".join(map(str, counts)) + "\n"
 
 
+def with_events(network, lines):
+    """Before each line of arrivals each junction hears all links that it feeds, and then decides, in random order."""
+    draw, number = random.Random(2), {link.name: i for i, link in enumerate(network.links, 1)}
+    target = {it.name: number.get(it.target) for it in network.movements}
+    fed = [sorted({target[it] for stage in stages for it in stage} - {None}) for stages in network.junctions]
+    for line in lines:
+        own = [[f"hear {j} {l}\n" for l in draw.sample(links, len(links))] + [f"decide {j}\n"] for j, links in enumerate(fed, 1)]
+        order = [j for j, events in enumerate(own) for _ in events]
+        draw.shuffle(order)
+        yield from (own[j].pop(0) for j in order)
+        yield line
+
+
 KINDS = {it.__name__: it for it in (links, corridor, grid, blocks, city, ring, largest)}
 
 if __name__ == "__main__":
-    if len(sys.argv) not in (3, 4) or sys.argv[1] not in KINDS:
+    if len(sys.argv) not in (3, 4, 5) or sys.argv[1] not in KINDS or sys.argv[4:] not in ([], ["events"]):
         sys.exit(__doc__)
     chosen = KINDS[sys.argv[1]](int(sys.argv[2]))
-    sys.stdout.writelines(stream(chosen, int(sys.argv[3])) if len(sys.argv) == 4 else text(chosen))
+    lines = stream(chosen, int(sys.argv[3])) if len(sys.argv) > 3 else text(chosen)
+    sys.stdout.writelines(with_events(chosen, lines) if len(sys.argv) == 5 else lines)
