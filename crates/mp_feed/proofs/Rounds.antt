@@ -150,21 +150,21 @@ counts_rise shares n (suc m) i = omega (arith, counts_rise shares n m i, counts_
     turn n m = omega arith
 
 -- the shares of the rounds with the later count are at least the earlier count, and exceed it by what was gained
-module _ (shares joined : List ℕ) (total phase n p t rest : ℕ) (table : IsTable shares total joined) (h : phase < total) (ep : p ≡ phase) (et : t ≡ total) (er : rest ≡ (phase + n) % total) where
+module _ (shares joined : List ℕ) (total phase n whole rest : ℕ) (table : IsTable shares total joined) (h : phase < total) (ew : whole ≡ (phase + n) / total) (er : rest ≡ (phase + n) % total) where
   before_in : (i : ℕ) → i < length shares → slice_index joined (phase * length shares + i) ≡ counts shares phase i
   before_in i l = table.table.each phase i h l
 
-  after_in : (i : ℕ) → i < length shares → slice_index shares i * ((p + n) / t) + slice_index joined (rest * length shares + i) ≡ counts shares (phase + n) i
+  after_in : (i : ℕ) → i < length shares → slice_index shares i * whole + slice_index joined (rest * length shares + i) ≡ counts shares (phase + n) i
   after_in i l =
       let some : 1 ≤ sum shares = omega (arith, table.sums, table.some) in
       let at : slice_index joined (rest * length shares + i) ≡ counts shares ((phase + n) % total) i = table.table.each rest i (let m = mod-lt (phase + n) table.some in omega (arith, er)) l ∙ ap (λ r. counts shares r i) er in
-      let turns : slice_index shares i * ((p + n) / t) ≡ slice_index shares i * ((phase + n) / total) = ap₂ (λ a b. slice_index shares i * ((a + n) / b)) ep et in
+      let turns : slice_index shares i * whole ≡ slice_index shares i * ((phase + n) / total) = ap (λ w. slice_index shares i * w) ew in
       omega (arith, at, turns, rounds_rest shares some total (phase + n) i table.sums l)
 
-  pub gain_within : (i e l : ℕ) → i < length shares → e ≡ slice_index joined (phase * length shares + i) → l ≡ slice_index joined (rest * length shares + i) → e ≤ slice_index shares i * ((p + n) / t) + l
+  pub gain_within : (i e l : ℕ) → i < length shares → e ≡ slice_index joined (phase * length shares + i) → l ≡ slice_index joined (rest * length shares + i) → e ≤ slice_index shares i * whole + l
   gain_within i e l k ee el = omega (arith, ee, el, before_in i k, after_in i k, counts_rise shares phase n i)
 
-  pub gain_is : (i g e l : ℕ) → i < length shares → e ≡ slice_index joined (phase * length shares + i) → l ≡ slice_index joined (rest * length shares + i) → g + e ≡ slice_index shares i * ((p + n) / t) + l → g ≡ gained shares phase n i
+  pub gain_is : (i g e l : ℕ) → i < length shares → e ≡ slice_index joined (phase * length shares + i) → l ≡ slice_index joined (rest * length shares + i) → g + e ≡ slice_index shares i * whole + l → g ≡ gained shares phase n i
   gain_is i g e l k ee el is = omega (arith, is, ee, el, before_in i k, after_in i k)
 
 pub counts_few : (shares : List ℕ) (n i : ℕ) → counts shares n i ≤ n

@@ -148,12 +148,45 @@ fn gain(shares: &[u32], total: u32, joined: &[u16], phase: u32, n: u64, got: &mu
     ensures phase { result ≡ (phase + n) % sum shares.now }
 {
     let end = u64::from(phase) + n;
-    let rounds = end / u64::from(total);
-    let rest = (end % u64::from(total)) as u32;
+    let rounds = rounds_of(end, total);
+    let rest = rounds.rest;
     let earlier = row(joined, shares.len(), phase);
     let later = row(joined, shares.len(), rest);
-    put_gains(shares, rounds, earlier, later, got);
+    put_gains(shares, rounds.whole, earlier, later, got);
     rest
+}
+
+// Whole rounds, and how many vehicles of the next one have come.
+#[derive(Clone, Copy)]
+struct Rounds {
+    whole: u64,
+    rest: u32,
+}
+
+// The rounds that so many vehicles make. In a period a link mostly receives less than a round, and
+// then at most one round ends and no division, which is slow, is needed.
+fn rounds_of(vehicles: u64, total: u32) -> Rounds
+    requires { 1 ≤ total }
+    ensures whole { result.whole ≡ vehicles / total }
+    ensures rest { result.rest ≡ vehicles % total }
+{
+    let round = u64::from(total);
+    if vehicles < round {
+        Rounds {
+            whole: 0,
+            rest: vehicles as u32,
+        }
+    } else if vehicles - round < round {
+        Rounds {
+            whole: 1,
+            rest: (vehicles - round) as u32,
+        }
+    } else {
+        Rounds {
+            whole: vehicles / round,
+            rest: (vehicles % round) as u32,
+        }
+    }
 }
 
 // How many of the first n vehicles of a round joined each share.
