@@ -27,3 +27,25 @@ fn carves_all_cells(rt: HostRuntime) -> Result<(), Fail> {
     assert!(rt; region.carve(1).is_none());
     Ok(())
 }
+
+// A write at the last cell of a span, and a flip of two neighbours, leave the spans beside them.
+#[test]
+fn leaves_the_spans_beside(rt: HostRuntime) -> Result<(), Fail> {
+    let mut region = Region::new(rt.alloc(), 8)?;
+    let (Some(before), Some(mut first)) = (region.carve(2), region.carve(2)) else {
+        panic!(rt; "eight cells hold two spans of two");
+    };
+    let (Some(mut second), Some(after)) = (region.carve(2), region.carve(2)) else {
+        panic!(rt; "eight cells hold four spans of two");
+    };
+    region.set(&before, 1, 1);
+    region.set(&first, 1, 3);
+    region.set(&second, 0, 4);
+    region.set(&after, 0, 6);
+    region.flip(&mut first, &mut second);
+    assert_eq!(rt; region.part(&before), [0, 1].as_slice());
+    assert_eq!(rt; region.part(&first), [4, 0].as_slice());
+    assert_eq!(rt; region.part(&second), [0, 3].as_slice());
+    assert_eq!(rt; region.part(&after), [6, 0].as_slice());
+    Ok(())
+}
