@@ -69,11 +69,12 @@ fn read_row(line: &[u8], n: usize, into: &mut ArrayVec<i128, 512>) -> bool
 }
 
 /// Says what a line of the input is, without its end. With `Counts` it makes `into` the counts, one per
-/// movement in movement order.
+/// movement in movement order, and else it leaves it empty.
 pub fn read_input(net: &Net, line: &[u8], into: &mut ArrayVec<i128, 512>) -> InputKind
     ensures line { IsOfLine result into.new.items (plain_line net.now line.now) }
     ensures small { result ≡ InputKind.Counts → AreSmall into.new.items }
     ensures count { result ≡ InputKind.Counts → length into.new.items ≡ length net.now.movements }
+    ensures empty { ¬ (result ≡ InputKind.Counts) → into.new.items ≡ [] }
 {
     into.clear();
     if is_skipped(line) {
@@ -82,6 +83,7 @@ pub fn read_input(net: &Net, line: &[u8], into: &mut ArrayVec<i128, 512>) -> Inp
     if read_row(line, usize::from(net.movements()), into) {
         InputKind::Counts
     } else {
+        into.clear();
         InputKind::Bad
     }
 }
