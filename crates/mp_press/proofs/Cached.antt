@@ -1,17 +1,16 @@
 -- What is queued on each link where a count changes, and the counts that are large.
-use Rattle.std.proofs.Common.{◌≡◌, ◌==◌, ◌≢◌, ◌≤◌, ◌<◌, ℕ, zero, suc, ◌+◌, ◌-◌, ◌*◌, ◌^◌, Bool, true, false, cond, List, [], ◌∷◌, length, get_or, set, replicate, sum_by, Option, None, Some, arith, refl, sym, ◌∙◌, ap, subst, map, pos, eq-eqb, eqb-true, ⊎_elim, mul-zero}
+use Rattle.std.proofs.Common.{◌≡◌, ◌==◌, ◌≢◌, ◌≤◌, ◌<◌, ℕ, zero, suc, ◌+◌, ◌-◌, ◌*◌, ◌^◌, Bool, true, false, cond, List, [], ◌∷◌, length, set, replicate, sum_by, Option, None, Some, arith, refl, sym, ◌∙◌, ap, subst, map, pos, eq-eqb, eqb-true, ⊎_elim}
 use Rattle.std.specs.Prelude.{nat_le}
 use Rattle.std.specs.List.{All, AllByRecursion}
 use Rattle.std.proofs.lemmas.Bool.{true≢false, le-leb, cases_lt}
 use Rattle.std.proofs.lemmas.List.Elements.{All-from_recursion, All-replicate}
-use Rattle.std.proofs.lemmas.List.{length-set, length-replicate}
+use Rattle.std.proofs.lemmas.List.{length-set}
 use Rattle.std.proofs.lemmas.List.Sums.{sum_by-cons, sum_by-set}
-use Rattle.std.proofs.lemmas.List.Folds.{sum_by-replicate}
 use Rattle.mp_model.specs.Network.{Network, entry, to_of, from_of, share_of, out_of, out_of_target, has, movement_numbers}
 use Rattle.mp_model.specs.NetworkRules.{IsNetwork, IsAcceptable}
 use Rattle.mp_model.specs.Pressure.{queued_downstream}
 use Rattle.mp_laws.proofs.Lists.{all_of, at_in, each_in, filter_has, filter_sub, has_filter}
-use Rattle.mp_laws.proofs.Sums.{terms_le, sum_by-same, sum_by-same_at, sum_by-zero}
+use Rattle.mp_laws.proofs.Sums.{terms_le, sum_by-same_at}
 use Rattle.mp_press.specs.Queues.{naturals, AreCounts}
 use Rattle.mp_press.specs.LinkSums.{AreSums}
 use Rattle.mp_press.specs.Written.{HasEach, IsAmong, entry_at}
@@ -129,18 +128,7 @@ large_few counts = omega (arith, sum_few one_if_large 1 counts (all_of (λ q. on
 pub large_after : (counts : List ℕ) (k v : ℕ) → IsAmong (length counts) k → large_in counts + one_if_large v - one_if_large (entry counts k) ≡ large_in (set counts (k - 1) v)
 large_after counts k v h = omega (arith, sum_by-set one_if_large counts (k - 1) v 0 (omega (arith, h)))
 
--- where no vehicle is queued
-pub none_queued : (net : Network) → (m n : ℕ) → n ≡ length net.links → AreSums net (entry (replicate m 0)) (replicate n 0)
-none_queued net m n e = record {
-  size = length-replicate {A = ℕ} n 0 ∙ e;
-  each = λ l some few. zero_at n (l - 1) ∙ sym (sum_by-same (λ k. share_of net k * entry (replicate m 0) k) (λ k. 0) (λ k. ap (λ x. share_of net k * x) (zero_at m (k - 1)) ∙ mul-zero (share_of net k)) (out_of net l) ∙ sum_by-zero (out_of net l));
-}
-  where
-    zero_at : (m i : ℕ) → let z : ℕ = 0 in get_or (replicate m z) i z ≡ z
-    zero_at zero i = refl
-    zero_at (suc m) zero = refl
-    zero_at (suc m) (suc i) = zero_at m i
-
+-- counts that are all 0
 pub zero_naturals : (m : ℕ) → naturals (replicate m (pos 0)) ≡ replicate m 0
 zero_naturals zero = refl
 zero_naturals (suc m) = ap (λ xs. 0 ∷ xs) (zero_naturals m)
@@ -154,6 +142,3 @@ zeros_count m = record {
   none_negative = ap (map pos) (zero_naturals m) ∙ zeros_positive m;
   few = subst (All (λ q. q ≤ 2 ^ 90)) (sym (zero_naturals m)) (All-replicate (λ q. q ≤ 2 ^ 90) m 0 (omega arith));
 }
-
-pub no_large_zeros : (m : ℕ) → let z : ℕ = 0 in large_in (replicate m z) ≡ z
-no_large_zeros m = sum_by-replicate one_if_large m 0 ∙ mul-zero m

@@ -6,4 +6,5 @@ pub mod Firsts
 pub mod Signs
 pub mod Changed
 pub mod Cached
+pub mod Summed
 mod Worked

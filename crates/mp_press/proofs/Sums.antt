@@ -13,7 +13,7 @@ pub range_more : (a n b : ℕ) → a + n ≡ b → range_with_len a (suc n) ≡ 
 range_more a zero b e = let s : a ≡ b = omega arith in ap (λ x. x ∷ []) s
 range_more a (suc n) b e = ap (λ xs. a ∷ xs) (range_more (a + 1) n b (omega arith))
 
-numbers_more : (f : ℕ → ℕ) (i : ℕ) → sum_by f (numbers_to (i + 1)) ≡ sum_by f (numbers_to i) + f (i + 1)
+pub numbers_more : (f : ℕ → ℕ) (i : ℕ) → sum_by f (numbers_to (i + 1)) ≡ sum_by f (numbers_to i) + f (i + 1)
 numbers_more f i = ap (λ m. sum_by f (numbers_to m)) (add-one i) ∙ ap (sum_by f) (range_more 1 i (i + 1) (omega arith)) ∙ sum_by_push f (numbers_to i) (i + 1)
 
 pub numbers_step : (f : ℕ → ℕ) (i sum v most : ℕ) → v ≡ f (i + 1) → v ≤ most → sum ≡ sum_by f (numbers_to i) → sum ≤ i * most →

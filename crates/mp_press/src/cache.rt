@@ -1,6 +1,6 @@
 // Counts whose weights are kept up to date.
 ghost use Rattle.std.specs.Prelude.{◌≡◌, ◌≤◌, ◌<◌, ◌+◌, ◌*◌, ◌-◌, ◌^◌, ◌≤ℤ◌, ℕ, All, IfOk, length, map, pos, slice_set, slice_index, unsigned_abs};
-ghost use Rattle.mp_model.specs.Network.{Network, movement_numbers, start_of, junction_at, entry};
+ghost use Rattle.mp_model.specs.Network.{Network, movement_numbers, start_of, from_of, share_of, junction_at, entry};
 ghost use Rattle.mp_model.specs.NetworkRules.{IsAcceptable};
 ghost use Rattle.mp_model.specs.Pressure.{weight, greatest_stage, IsGreatestStage, AllGreatest};
 ghost use Rattle.mp_model.specs.Step.{AreStages};
@@ -15,7 +15,7 @@ use crate::small::{choose_all_small, choose_small};
 use crate::stages::{behind_in, choose_all};
 use crate::weights::difference;
 use arrayvec::ArrayVec;
-use mp_net::{JunctionNo, LinkNo, MovementNo, Net, StageNo};
+use mp_net::{JunctionNo, MovementNo, Net, StageNo};
 use std::alloc::Global;
 use std::marker::Model;
 
@@ -36,16 +36,31 @@ fn put_count(counts: &mut [i128], k: MovementNo, count: u128)
     counts[usize::from(k) - 1] = count as i128;
 }
 
-// Adds to what is queued on a link where one count out of it changes.
-fn add_to(queued: &mut [u128], l: LinkNo, before: u128, after: u128)
-    requires known { (1 ≤ l) × (l ≤ length queued.old) }
-    requires there { before ≤ entry queued.old l }
-    requires few { entry queued.old l ≤ 2 ^ 110 }
-    requires fits { after ≤ 2 ^ 110 }
-    ensures { queued.new ≡ slice_set queued.old (l - 1) (entry queued.old l + after - before) }
+// A share times a count, in 64 bits where the count is not large, as nearly none is.
+fn share_times(share: u32, count: u128) -> u128
+    requires { (share ≤ 1000) × (count ≤ 2 ^ 90) }
+    ensures { result ≡ share * count }
 {
-    let at = usize::from(l) - 1;
-    queued[at] = queued[at] + after - before;
+    if count < 1 << 31 {
+        u128::from(u64::from(share) * count as u64)
+    } else {
+        u128::from(share) * count
+    }
+}
+
+// Takes a count that was summed on the link that its movement leaves for another.
+fn add_count(net: &Net, queued: &mut [u128], k: MovementNo, before: u128, after: u128)
+    requires acceptable { IsAcceptable net.now }
+    requires known { (1 ≤ k) × (k ≤ length net.now.movements) }
+    requires len { length queued.old ≡ length net.now.links }
+    requires there { share_of net.now k * before ≤ entry queued.old (from_of net.now k) }
+    requires few { entry queued.old (from_of net.now k) ≤ 2 ^ 110 }
+    requires fits { (before ≤ 2 ^ 90) × (after ≤ 2 ^ 90) }
+    ensures { queued.new ≡ slice_set queued.old (from_of net.now k - 1) (entry queued.old (from_of net.now k) + share_of net.now k * after - share_of net.now k * before) }
+{
+    let turn = net.turn(k);
+    let at = usize::from(turn.from) - 1;
+    queued[at] = queued[at] + share_times(turn.share, after) - share_times(turn.share, before);
 }
 
 // Makes one count another, with what is queued on the link that its movement leaves, and answers how
@@ -72,81 +87,41 @@ fn change(
     ensures queued { AreSums net.now (entry (naturals counts.new)) queued.new }
     ensures large { result ≡ large_in (naturals counts.new) }
 {
-    let turn = net.turn(k);
-    let share = u128::from(turn.share);
-    add_to(queued, turn.from, share * before, share * after);
+    add_count(net, queued, k, before, after);
     put_count(counts, k, after);
     large + one_if_large(after) - one_if_large(before)
 }
 
-// The same, where the count may be what it was.
-fn renew(
-    net: &Net,
-    counts: &mut [i128],
-    queued: &mut [u128],
-    large: u16,
-    k: MovementNo,
-    after: u128,
-) -> u16
+// Sums what is queued on each link, and answers how many counts are large.
+fn sum_all(net: &Net, counts: &[i128], queued: &mut [u128]) -> u16
     requires acceptable { IsAcceptable net.now }
-    requires known { (1 ≤ k) × (k ≤ length net.now.movements) }
-    requires len { length counts.old ≡ length net.now.movements }
-    requires counts { AreCounts counts.old }
-    requires queued { AreSums net.now (entry (naturals counts.old)) queued.old }
-    requires large { large ≡ large_in (naturals counts.old) }
-    requires fits { after ≤ 2 ^ 90 }
-    ensures value { naturals counts.new ≡ slice_set (naturals counts.old) (k - 1) after }
-    ensures counts { AreCounts counts.new }
-    ensures queued { AreSums net.now (entry (naturals counts.new)) queued.new }
-    ensures large { result ≡ large_in (naturals counts.new) }
+    requires len { length counts.now ≡ length net.now.movements }
+    requires counts { AreCounts counts.now }
+    requires links { length queued.old ≡ length net.now.links }
+    ensures queued { AreSums net.now (entry (naturals counts.now)) queued.new }
+    ensures large { result ≡ large_in (naturals counts.now) }
 {
-    let before = queue_of(counts, k);
-    if before == after {
-        large
-    } else {
-        change(net, counts, queued, large, k, before, after)
-    }
-}
-
-// Makes each count another, and answers how many are large.
-fn renew_all(net: &Net, counts: &mut [i128], queued: &mut [u128], large: u16, after: &[i128]) -> u16
-    requires acceptable { IsAcceptable net.now }
-    requires len { length counts.old ≡ length net.now.movements }
-    requires counts { AreCounts counts.old }
-    requires queued { AreSums net.now (entry (naturals counts.old)) queued.old }
-    requires large { large ≡ large_in (naturals counts.old) }
-    requires after_len { length after.now ≡ length net.now.movements }
-    requires after_counts { AreCounts after.now }
-    ensures value { naturals counts.new ≡ naturals after.now }
-    ensures counts { AreCounts counts.new }
-    ensures queued { AreSums net.now (entry (naturals counts.new)) queued.new }
-    ensures large { result ≡ large_in (naturals counts.new) }
-{
-    let mut now = large;
+    queued.fill(0);
+    let mut large = 0;
     for i in 0..net.movements() {
-        now = renew(net, counts, queued, now, i + 1, queue_of(after, i + 1));
+        let count = queue_of(counts, i + 1);
+        add_count(net, queued, i + 1, 0, count);
+        large += one_if_large(count);
     }
-    now
+    large
 }
 
-// Makes each count the start queue of its movement, and answers how many are large.
-fn start_all(net: &Net, counts: &mut [i128], queued: &mut [u128]) -> u16
-    requires acceptable { IsAcceptable net.now }
+// Makes each count the start queue of its movement.
+fn put_starts(net: &Net, counts: &mut [i128])
     requires len { length counts.old ≡ length net.now.movements }
     requires counts { AreCounts counts.old }
-    requires queued { AreSums net.now (entry (naturals counts.old)) queued.old }
-    requires large { 0 ≡ large_in (naturals counts.old) }
     ensures value { naturals counts.new ≡ map (start_of net.now) (movement_numbers net.now) }
     ensures counts { AreCounts counts.new }
-    ensures queued { AreSums net.now (entry (naturals counts.new)) queued.new }
-    ensures large { result ≡ large_in (naturals counts.new) }
 {
-    let mut now = 0;
     for i in 0..net.movements() {
         let start = u128::from(net.movement(i + 1).start);
-        now = renew(net, counts, queued, now, i + 1, start);
+        put_count(counts, i + 1, start);
     }
-    now
 }
 
 // The stage of a junction, where each count is below 2^31 in 64 bits, else in 128.
@@ -238,7 +213,8 @@ impl Cache {
         let mut counts = vec![in alloc; 0i128; movements]?;
         let mut queued = vec![in alloc; 0u128; usize::from(net.links())]?;
         let presses = vec![in alloc; 0u64; movements]?;
-        let large = start_all(net, &mut counts, &mut queued);
+        put_starts(net, &mut counts);
+        let large = sum_all(net, &counts, &mut queued);
         Ok(Cache {
             counts,
             queued,
@@ -276,7 +252,8 @@ impl Cache {
         );
     }
 
-    /// The counts change to these, one per movement. What stays costs a look.
+    /// The counts change to these, one per movement. Each sum is formed anew, since in a period most
+    /// counts change.
     pub fn renew(&mut self, net: &Net, after: &[i128])
         requires is { IsCacheOf net.now self.old }
         requires len { length after.now ≡ length net.now.movements }
@@ -285,7 +262,8 @@ impl Cache {
         ensures value { self.new.counts ≡ naturals after.now }
     {
         let _ = net.shares();
-        self.large = renew_all(net, &mut self.counts, &mut self.queued, self.large, after);
+        self.counts.copy_from_slice(after);
+        self.large = sum_all(net, &self.counts, &mut self.queued);
     }
 
     /// The weight of the movement, in vehicles times shares.

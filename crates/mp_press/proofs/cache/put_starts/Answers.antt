@@ -5,7 +5,7 @@ use Rattle.std.proofs.lemmas.List.Edits.{fill_by_more}
 use Rattle.mp_model.specs.Network.{Movement, start_of}
 use Rattle.mp_press.specs.Queues.{naturals}
 use Rattle.mp_press.proofs.Writes.{numbers_by_all}
-use Rattle.mp_press.proofs.cache.start_all.Goals as goal
+use Rattle.mp_press.proofs.cache.put_starts.Goals as goal
 
 pub loop-i-preserved : goal.loop-i-preserved
 loop-i-preserved c =
@@ -16,10 +16,8 @@ loop-i-preserved c =
     let size : length old ≡ length c.loop-i.counts = length-map c.loop-i.counts unsigned_abs in
     let value : c.from-start.result ≡ start_of net (i + 1) = c.from-start.ensures ∙ ap (λ (m : Movement). m.start) c.movement.ensures.part in
     record {
-      counts = c.renew-now.ensures.counts;
-      queued = c.renew-now.ensures.queued;
-      large = c.renew-now.ensures.large;
-      each = λ m h. ap (λ xs. slice_index xs m) c.renew-now.ensures.value ∙ ap₂ (λ n v. slice_index (set old n v) m) back value
+      counts = c.put_count.ensures.counts;
+      each = λ m h. ap (λ xs. slice_index xs m) c.put_count.ensures.value ∙ ap₂ (λ n v. slice_index (set old n v) m) back value
           ∙ fill_by_more (λ m. start_of net (m + 1)) old i 0 (omega (arith, size, c.loop-i.auto.counts, c.requires.len)) c.loop-i.invariant.each m h;
     }
 
