@@ -1,5 +1,5 @@
 -- What is queued on each link where a count changes, and the counts that are large.
-use Rattle.std.proofs.Common.{◌≡◌, ◌==◌, ◌≢◌, ◌≤◌, ◌<◌, ℕ, zero, suc, ◌+◌, ◌-◌, ◌*◌, ◌^◌, Bool, true, false, cond, List, [], ◌∷◌, length, set, replicate, sum_by, Option, None, Some, arith, refl, sym, ◌∙◌, ap, subst, map, pos, eq-eqb, eqb-true, ⊎_elim}
+use Rattle.std.proofs.Common.{◌≡◌, ◌==◌, ◌≢◌, ◌≤◌, ◌<◌, ℕ, zero, suc, ◌+◌, ◌-◌, ◌*◌, ◌^◌, Bool, true, false, cond, List, [], ◌∷◌, length, get_or, set, replicate, sum_by, Option, None, Some, arith, refl, sym, ◌∙◌, ap, subst, map, pos, eq-eqb, eqb-true, ⊎_elim, mul-zero, mul-le-mul}
 use Rattle.std.specs.Prelude.{nat_le}
 use Rattle.std.specs.List.{All, AllByRecursion}
 use Rattle.std.proofs.lemmas.Bool.{true≢false, le-leb, cases_lt}
@@ -17,7 +17,6 @@ use Rattle.mp_press.specs.Written.{HasEach, IsAmong, entry_at}
 use Rattle.mp_press.specs.Presses.{queued_on}
 use Rattle.mp_press.specs.Weighed.{one_if_large, large_in}
 use Rattle.mp_press.proofs.Known.{among, to_known, from_known, share_few, few_kept, kept_differ, has_numbers}
-use Rattle.mp_press.proofs.Sums.{product_fits}
 use Rattle.mp_press.proofs.Writes.{entry-set_same, entry-set_other}
 use Rattle.mp_press.proofs.Changed.{sum_changed, sum_few}
 
@@ -29,22 +28,26 @@ downstream_in net ok q table each k h = go (to_of net k) (to_known net ok k)
     go None t = refl
     go (Some l) t = let i = t l h refl in each l i.0 i.1
 
--- no sum is large
-pub queued_few : (net : Network) → IsAcceptable net → (q : ℕ → ℕ) → ((k : ℕ) → q k ≤ 2 ^ 90) → (l : ℕ) → queued_on net q l ≤ 512 * (1000 * 2 ^ 90)
-queued_few net ok q few l =
+-- no sum is large where no count is above a bound
+pub queued_few : (net : Network) → IsAcceptable net → (most : ℕ) (q : ℕ → ℕ) → ((k : ℕ) → q k ≤ most) → (l : ℕ) → queued_on net q l ≤ 512 * (1000 * most)
+queued_few net ok most q few l =
     let p : ℕ → Bool = λ k. from_of net k == l in
-    let each : AllByRecursion (λ k. share_of net k * q k ≤ 1000 * 2 ^ 90) (out_of net l) =
-    each_in (λ k. share_of net k * q k ≤ 1000 * 2 ^ 90) (out_of net l) (λ k h.
+    let each : AllByRecursion (λ k. share_of net k * q k ≤ 1000 * most) (out_of net l) =
+    each_in (λ k. share_of net k * q k ≤ 1000 * most) (out_of net l) (λ k h.
     let share = share_few net ok.network k (among (length net.movements) k (filter_sub p (movement_numbers net) k h)) in
-    product_fits (share_of net k) (q k) (omega (arith, share, ok.range.shares)) (few k)) in
-    omega (arith, sum_few (λ k. share_of net k * q k) (1000 * 2 ^ 90) (out_of net l) each, few_kept p (length net.movements), ok.range.movements)
+    let within : share_of net k ≤ 1000 = omega (arith, share, ok.range.shares) in
+    mul-le-mul within (few k)) in
+    let many : length (out_of net l) ≤ 512 = omega (arith, few_kept p (length net.movements), ok.range.movements) in
+    let same : 1000 * most ≤ 1000 * most = omega arith in
+    let all : length (out_of net l) * (1000 * most) ≤ 512 * (1000 * most) = mul-le-mul many same in
+    omega (arith, sum_few (λ k. share_of net k * q k) (1000 * most) (out_of net l) each, all)
 
-pub downstream_few : (net : Network) → IsAcceptable net → (q : ℕ → ℕ) → ((k : ℕ) → q k ≤ 2 ^ 90) → (k : ℕ) → queued_downstream net q k ≤ 512 * (1000 * 2 ^ 90)
-downstream_few net ok q few k = go (to_of net k)
+pub downstream_few : (net : Network) → IsAcceptable net → (most : ℕ) (q : ℕ → ℕ) → ((k : ℕ) → q k ≤ most) → (k : ℕ) → queued_downstream net q k ≤ 512 * (1000 * most)
+downstream_few net ok most q few k = go (to_of net k)
   where
-    go : (to : Option ℕ) → sum_by (λ j. share_of net j * q j) (out_of_target net to) ≤ 512 * (1000 * 2 ^ 90)
+    go : (to : Option ℕ) → sum_by (λ j. share_of net j * q j) (out_of_target net to) ≤ 512 * (1000 * most)
     go None = omega arith
-    go (Some l) = queued_few net ok q few l
+    go (Some l) = queued_few net ok most q few l
 
 -- where the count of movement k changes, so does what is queued on the link that it leaves
 module _ (net : Network) (ok : IsNetwork net) (counts : List ℕ) (size : length counts ≡ length net.movements) (k v : ℕ) (known : IsAmong (length net.movements) k) where

@@ -32,11 +32,12 @@ press_fits w q b f h k l =
     let t : f * (w * q - b) ≤ 1000 * (1000 * 2 ^ 90) = mul-le-mul l r in
     omega arith
 
+-- a number of a list none of which is above the bound
+pub at_most : (most : ℕ) (ns : List ℕ) (i : ℕ) → All (λ q. q ≤ most) ns → get_or ns i 0 ≤ most
+at_most most [] i h = omega arith
+at_most most (n ∷ ns) zero h = h 0 0 (omega arith)
+at_most most (n ∷ ns) (suc i) h = at_most most ns i (λ j d lt. h (suc j) d (omega arith))
+
 -- a queue that can be weighed
 pub few_at : (zs : List ℤ) (i : ℕ) → AreCounts zs → get_or (naturals zs) i 0 ≤ 2 ^ 90
-few_at zs i h = at_all (naturals zs) i h.few
-  where
-    at_all : (ns : List ℕ) (i : ℕ) → All (λ q. q ≤ 2 ^ 90) ns → get_or ns i 0 ≤ 2 ^ 90
-    at_all [] i h = omega arith
-    at_all (n ∷ ns) zero h = h 0 0 (omega arith)
-    at_all (n ∷ ns) (suc i) h = at_all ns i (λ j d lt. h (suc j) d (omega arith))
+few_at zs i h = at_most (2 ^ 90) (naturals zs) i h.few

@@ -1,12 +1,12 @@
 // The stages of greatest pressure in 64 bits, while each count is below 2^31.
 ghost use Rattle.std.specs.Prelude.{◌≡◌, ◌≤◌, ◌<◌, ◌*◌, ◌-◌, ◌^◌, ℕ, All, length, sum_by, slice_set};
-ghost use Rattle.mp_model.specs.Network.{flow_of, junction_at, entry};
+ghost use Rattle.mp_model.specs.Network.{to_of, flow_of, junction_at, entry};
 ghost use Rattle.mp_model.specs.NetworkRules.{IsAcceptable};
 ghost use Rattle.mp_model.specs.Pressure.{greatest_stage};
 ghost use Rattle.mp_model.specs.Run.{greatest_stages};
 ghost use Rattle.mp_press.specs.Queues.{naturals};
 ghost use Rattle.mp_press.specs.LinkSums.{AreSums};
-ghost use Rattle.mp_press.specs.Written.{IsAmong, written};
+ghost use Rattle.mp_press.specs.Written.{IsAmong, entry_at, written};
 ghost use Rattle.mp_press.specs.Presses.{press_by, own_of, greatest_in};
 
 use crate::queues::queue_of;
@@ -22,16 +22,26 @@ fn small_queue(queues: &[i128], k: MovementNo) -> u64
     queue_of(queues, k) as u64
 }
 
+// What is queued on the link that a movement goes to, which fits where each count is below 2^31.
+fn small_behind(net: &Net, queued: &[u128], k: MovementNo) -> u64
+    requires acceptable { IsAcceptable net.now }
+    requires known { (1 ≤ k) × (k ≤ length net.now.movements) }
+    requires size { length net.now.links ≤ length queued.now }
+    requires small { entry_at queued.now (to_of net.now k) < 2 ^ 64 }
+    ensures { result ≡ entry_at queued.now (to_of net.now k) }
+{
+    behind_in(net, queued, k) as u64
+}
+
 // The press of a movement.
-fn small_press(net: &Net, k: MovementNo, queue: u64, behind: u128) -> u64
+fn small_press(net: &Net, k: MovementNo, queue: u64, behind: u64) -> u64
     requires acceptable { IsAcceptable net.now }
     requires known { (1 ≤ k) × (k ≤ length net.now.movements) }
     requires small { queue < 2 ^ 31 }
     ensures value { result ≡ flow_of net.now k * (net.now.shares * queue - behind) }
     ensures few { result ≤ 2 ^ 51 }
 {
-    let full = u64::from(net.shares()) * queue;
-    let weight = u128::from(full).saturating_sub(behind) as u64;
+    let weight = (u64::from(net.shares()) * queue).saturating_sub(behind);
     u64::from(net.turn(k).flow) * weight
 }
 
@@ -58,7 +68,7 @@ fn press_junction(net: &Net, j: JunctionNo, queues: &[i128], queued: &[u128], pr
     ensures few { All (λ p. p ≤ 2 ^ 51) presses.new }
 {
     for k in net.own(j) {
-        let behind = behind_in(net, queued, *k);
+        let behind = small_behind(net, queued, *k);
         put_small(
             presses,
             *k,

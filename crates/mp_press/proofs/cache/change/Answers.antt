@@ -1,4 +1,4 @@
-use Rattle.std.proofs.Common.{◌≡◌, ◌+◌, ◌-◌, ◌*◌, ◌∙◌, ap, arith, length, ℕ, List, set, subst, sym}
+use Rattle.std.proofs.Common.{◌^◌, ◌≡◌, ◌+◌, ◌-◌, ◌*◌, ◌∙◌, ap, arith, length, ℕ, List, set, subst, sym}
 use Rattle.std.specs.Prelude.{unsigned_abs}
 use Rattle.std.proofs.lemmas.List.{length-map}
 use Rattle.mp_model.specs.Network.{entry, share_of, from_of}
@@ -23,7 +23,7 @@ add_count-requires-clause-few c =
     let net = c.args.net.now in
     let zs = naturals c.args.counts.now in
     let l = from_known net c.requires.acceptable.network c.args.k c.requires.known in
-    omega (arith, c.requires.queued.each (from_of net c.args.k) l.0 l.1, queued_few net c.requires.acceptable (entry zs) (λ k. few_at c.args.counts.now (k - 1) c.requires.counts) (from_of net c.args.k))
+    omega (arith, c.requires.queued.each (from_of net c.args.k) l.0 l.1, queued_few net c.requires.acceptable (2 ^ 90) (entry zs) (λ k. few_at c.args.counts.now (k - 1) c.requires.counts) (from_of net c.args.k))
 
 pub add_count-requires-clause-fits : goal.add_count-requires-clause-fits
 add_count-requires-clause-fits c = (omega (arith, c.requires.before, few_at c.args.counts.now (c.args.k - 1) c.requires.counts), c.requires.fits)

@@ -14,7 +14,7 @@ use Rattle.mp_press.proofs.cache.Cache.weight.Goals as goal
 fits : (net : Network) → IsAcceptable net → (w : Weighed) → ((k : ℕ) → entry w.counts k ≤ 2 ^ 90) → (k a q b : ℕ) → a ≡ net.shares → q ≡ entry w.counts k → b ≡ queued_downstream net (entry w.counts) k → (a * q < 2 ^ 126) × (b < 2 ^ 126)
 fits net ok w few k a q b a_is q_is b_is =
     let most = product_fits a q (omega (arith, a_is, ok.range.shares)) (omega (arith, q_is, few k)) in
-    omega (arith, most, b_is, downstream_few net ok (entry w.counts) few k)
+    omega (arith, most, b_is, downstream_few net ok (2 ^ 90) (entry w.counts) few k)
 
 pub difference-requires : goal.difference-requires
 difference-requires c =
