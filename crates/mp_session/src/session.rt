@@ -4,7 +4,7 @@ ghost use Rattle.mp_model.specs.Certificate.{HasLengths, Certifies};
 ghost use Rattle.mp_model.specs.EventCore.{apply, all_lacking, arrivals_events, core_after, core_opening};
 ghost use Rattle.mp_model.specs.EventCore.Event.{close};
 ghost use Rattle.mp_model.specs.Network.{entry};
-ghost use Rattle.mp_model.specs.Run.{opening};
+ghost use Rattle.mp_model.specs.Run.{greatest_stages, opening};
 ghost use Rattle.mp_model.specs.Slack.{IsSlack};
 ghost use Rattle.mp_laws.specs.Buckets.{IsFirstAbove};
 ghost use Rattle.mp_cert.specs.Views.{cert_of};
@@ -184,7 +184,8 @@ impl<'a> Session<'a> {
     /// arrivals, one count of at most 9 digits per fed link.
     ///
     /// `AboveAt` comes exactly where some fed link would be above its bucket: it names the least, and the
-    /// hearings and decisions stay.
+    /// hearings and decisions stay. Where the delay is 0, a period closes with the stages of greatest pressure
+    /// at the queues of now.
     pub fn close_all(&mut self, arrivals: &[u64]) -> Result<(), AboveAt>
         requires can { CanClose self.old.net (core_of self.old.round) arrivals.now }
         ensures core { core_of self.new.round ≡ core_after self.old.net (core_of self.old.round) (arrivals_events self.old.net (core_of self.old.round) arrivals.now) }
@@ -193,6 +194,7 @@ impl<'a> Session<'a> {
         ensures stays { OnErr result (self.new.round.standing ≡ self.old.round.standing) }
         ensures excess { IfErr result (λ above. (A : List (List ℕ)) → HasTaken self.old.net self.old.round.standing A → IsFirstAbove self.old.net A arrivals.now above.link) }
         ensures advances { OnOk result (Advances self.old.net self.old.round.standing self.new.round.standing self.new.round.last arrivals.now) }
+        ensures prompt { self.old.net.delay ≡ 0 → OnOk result (self.new.round.last ≡ greatest_stages self.old.net (entry self.old.round.standing.queues)) }
         ensures same { self.new ≡ record self.old { round = self.new.round } }
     {
         let _ = self.net.shares();
