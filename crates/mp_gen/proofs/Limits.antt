@@ -12,7 +12,7 @@ use Rattle.mp_laws.proofs.Permitted.{bound_of_run}
 use Rattle.mp_press.specs.Queues.{naturals}
 use Rattle.mp_step.specs.Standing.{Standing}
 use Rattle.mp_num.specs.Fraction.{numerator, denominator}
-use Rattle.mp_drift.specs.Session.{Bounded, IsBounded}
+use Rattle.mp_session.specs.SessionView.{SessionView, IsBounded}
 use Rattle.mp_model.specs.Load.{greatest as greatest_of}
 use Rattle.mp_gen.specs.Demonstration.{Demonstrated}
 use Rattle.mp_gen.proofs.Greatests.{none_above, greatest-append}
@@ -46,7 +46,7 @@ states_below net bounds state (counts ∷ A) size low =
     )
 
 -- the greatest queue of a demonstration is at most the greatest bound
-pub demonstrated_below : (s : Bounded) → IsBounded s → (n : ℕ) (at : Standing) (greatest : ℕ) → Demonstrated s.net n at greatest → greatest ≤ greatest_of (naturals s.bounds)
+pub demonstrated_below : (s : SessionView) → IsBounded s → (n : ℕ) (at : Standing) (greatest : ℕ) → Demonstrated s.net n at greatest → greatest ≤ greatest_of (naturals s.bounds)
 demonstrated_below s b n at greatest shown =
     let low = bound_of_run s.net b.acceptable.network b.certified.0 b.certified.1 (numerator s.slack) (denominator s.slack) b.certified.2 b.bounds.bounds b.bounds.are shown.arrivals shown.permitted in
     let bounds : naturals s.bounds ≡ b.bounds.bounds = ap naturals b.bounds.listed ∙ map-map unsigned_abs pos b.bounds.bounds ∙ map-id b.bounds.bounds in

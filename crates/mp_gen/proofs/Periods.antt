@@ -3,9 +3,10 @@ use Rattle.std.proofs.Common.{◌≡◌, ℕ, ◌+◌, ◌^◌, max, List, [], �
 use Rattle.std.specs.List.{flat_map}
 use Rattle.std.proofs.lemmas.List.Concat.{flat_map-append}
 use Rattle.rand_pcg.specs.Lcg.{Lcg}
-use Rattle.mp_model.specs.Network.{Network}
-use Rattle.mp_model.specs.Step.{State}
-use Rattle.mp_model.specs.Run.{opening, advance, run_from, state_after}
+use Rattle.mp_model.specs.Network.{Network, entry}
+use Rattle.mp_model.specs.Step.{State, step}
+use Rattle.mp_model.specs.Arrivals.{arrivals_of}
+use Rattle.mp_model.specs.Run.{opening, advance, greatest_stages, run_from, state_after}
 use Rattle.mp_step.specs.Standing.{Standing, Stands}
 use Rattle.mp_step.specs.Taken.{HasTaken}
 use Rattle.mp_model.specs.Load.{greatest as greatest_of}
@@ -15,6 +16,12 @@ use Rattle.mp_gen.specs.Demonstration.{greatest_queue, Demonstrated, ClosesNext}
 use Rattle.mp_gen.proofs.Greatests.{greatest-append}
 use Rattle.mp_gen.proofs.Roads.{none_at_start}
 use Rattle.mp_gen.proofs.Draws.{drawn_more}
+
+-- a period with the greatest stages of the queues before it is one of the run
+pub advances : (net : Network) (old new : Standing) (stages counts : List ℕ) → stages ≡ greatest_stages net (entry old.queues) → ((state : State) → Stands net old state → Stands net new (step net stages (arrivals_of net counts) state))
+    → (state : State) → Stands net old state → Stands net new (advance net counts state)
+advances net old new stages counts are steps state stands =
+    subst (λ (ss : List ℕ). Stands net new (step net ss (arrivals_of net counts) state)) (are ∙ ap (λ (qs : List ℕ). greatest_stages net (entry qs)) stands.queues) (steps state stands)
 
 -- in the middle of a demonstration: so many periods were drawn and closed, the run stands after them, and this is its greatest queue
 pub record Shown (net : Network) (n : ℕ) (at : Standing) (words : Lcg) (turns greatest : ℕ) : Type 0 where

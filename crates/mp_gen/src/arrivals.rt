@@ -7,8 +7,8 @@ ghost use Rattle.mp_step.specs.Taken.{HasTaken};
 ghost use Rattle.mp_gen.specs.DemoArrivals.{seeded, wish, IsArrival, IsDrawn};
 
 use arrayvec::ArrayVec;
-use mp_drift::Session;
 use mp_net::LinkNo;
+use mp_session::Session;
 use rand_core::SeedableRng;
 use rand_core::utils::NextWord;
 use rand_pcg::Pcg32;
@@ -40,19 +40,19 @@ fn wish(l: LinkNo, word: u32) -> u32
 // The arrivals on a link in the next period, by the next word.
 fn draw(words: &mut Pcg32, session: &Session, l: LinkNo) -> u64
     requires { (1 ≤ l) × (l ≤ length session.now.net.links) }
-    ensures arrival { (A : List (List ℕ)) → HasTaken session.now.net session.now.at A → IsArrival session.now.net A l (pcg32 words.old).0 result }
+    ensures arrival { (A : List (List ℕ)) → HasTaken session.now.net session.now.round.standing A → IsArrival session.now.net A l (pcg32 words.old).0 result }
     ensures word { words.new ≡ (pcg32 words.old).1 }
     ensures few { result < 5 }
 {
     let wish = wish(l, words.next_word());
-    let room = session.state().room(l);
+    let room = session.round().state().room(l);
     u64::from(wish).min(room)
 }
 
 // Appends the arrivals of the next period, one word drawn for each fed link in order.
 fn draw_all(words: &mut Pcg32, session: &Session, into: &mut ArrayVec<u64, 128>)
     requires { into.old.items ≡ [] }
-    ensures drawn { (A : List (List ℕ)) → HasTaken session.now.net session.now.at A → IsDrawn session.now.net A (fed session.now.net) words.old into.new.items words.new }
+    ensures drawn { (A : List (List ℕ)) → HasTaken session.now.net session.now.round.standing A → IsDrawn session.now.net A (fed session.now.net) words.old into.new.items words.new }
     ensures counts { HasCounts session.now.net into.new.items }
     ensures digits { All (λ a. a < 10 ^ 9) into.new.items }
 {
@@ -78,8 +78,8 @@ impl DemoArrivals {
     /// word is drawn, and the count is the lesser of the wish by it and the greatest count that the
     /// bucket of the link accepts.
     pub fn fill(&mut self, session: &Session, into: &mut ArrayVec<u64, 128>)
-        ensures drawn { (A : List (List ℕ)) → HasTaken session.now.net session.now.at A → IsDrawn session.now.net A (fed session.now.net) self.old into.new.items self.new }
-        ensures permitted { (A : List (List ℕ)) → HasTaken session.now.net session.now.at A → IsPermitted session.now.net (A ++ into.new.items ∷ []) }
+        ensures drawn { (A : List (List ℕ)) → HasTaken session.now.net session.now.round.standing A → IsDrawn session.now.net A (fed session.now.net) self.old into.new.items self.new }
+        ensures permitted { (A : List (List ℕ)) → HasTaken session.now.net session.now.round.standing A → IsPermitted session.now.net (A ++ into.new.items ∷ []) }
         ensures counts { HasCounts session.now.net into.new.items }
         ensures digits { All (λ a. a < 10 ^ 9) into.new.items }
     {

@@ -12,7 +12,7 @@ ghost use Rattle.mp_gen.specs.Demonstration.{Demonstrated, ClosesNext};
 use crate::DemoArrivals;
 use crate::greatest::greatest_of;
 use arrayvec::ArrayVec;
-use mp_drift::Session;
+use mp_session::Session;
 use mp_step::AboveAt;
 
 /// The number of periods of a demonstration.
@@ -20,14 +20,15 @@ pub const PERIODS: u32 = 1 << 20;
 
 // Closes one period with the next arrivals, for which `counts` is room. The buckets accept them.
 fn next_period(session: &mut Session, arrivals: &mut DemoArrivals, counts: &mut ArrayVec<u64, 128>)
-    requires taken { (A : List (List ℕ)) × HasTaken session.old.net session.old.at A }
-    requires period { session.old.at.period < MOST_LINES }
-    ensures closes { ClosesNext session.old.net session.old.at session.new.at arrivals.old arrivals.new }
-    ensures same { session.new ≡ record session.old { at = session.new.at; stages = session.new.stages } }
-    ensures period { session.new.at.period ≡ session.old.at.period + 1 }
+    requires delay { session.old.net.delay ≡ 0 }
+    requires taken { (A : List (List ℕ)) × HasTaken session.old.net session.old.round.standing A }
+    requires period { session.old.round.standing.period < MOST_LINES }
+    ensures closes { ClosesNext session.old.net session.old.round.standing session.new.round.standing arrivals.old arrivals.new }
+    ensures same { session.new ≡ record session.old { round = session.new.round } }
+    ensures period { session.new.round.standing.period ≡ session.old.round.standing.period + 1 }
 {
     arrivals.fill(session, counts);
-    match session.period(counts) {
+    match session.close_all(counts) {
         Ok(()) => {}
         Err(AboveAt { .. }) => unreachable!(),
     }
@@ -41,14 +42,14 @@ fn next_period(session: &mut Session, arrivals: &mut DemoArrivals, counts: &mut 
 /// network, slack and bounds. The run takes no memory.
 pub fn demonstrate(session: &mut Session, n: u64) -> u128
     requires network { session.old.net ≡ demo_network n }
-    requires start { Stands session.old.net session.old.at (opening session.old.net) }
-    requires taken { HasTaken session.old.net session.old.at [] }
-    ensures shown { Demonstrated session.old.net n session.new.at result }
+    requires start { Stands session.old.net session.old.round.standing (opening session.old.net) }
+    requires taken { HasTaken session.old.net session.old.round.standing [] }
+    ensures shown { Demonstrated session.old.net n session.new.round.standing result }
     ensures bounded { result ≤ greatest_of (naturals session.old.bounds) }
-    ensures same { session.new ≡ record session.old { at = session.new.at; stages = session.new.stages } }
+    ensures same { session.new ≡ record session.old { round = session.new.round } }
 {
-    // A session's state comes with what the session keeps.
-    let _state = session.state();
+    // A session's round comes with what the session keeps.
+    let _ = session.round();
     let mut arrivals = DemoArrivals::new(n);
     let mut counts = ArrayVec::new();
     let mut greatest = 0;

@@ -8,9 +8,9 @@ ghost use Rattle.mp_gen.specs.Demonstration.{Demonstrated};
 ghost use Rattle.mp_gen.specs.DemoText.{demo_text, demo_summary};
 
 use crate::greatest::greatest_of;
-use mp_drift::Session;
 use mp_edge::{Failed, Sink};
 use mp_log::{push_number, push_text};
+use mp_session::Session;
 use mp_text::LineSink;
 
 // E of the slack E/D of a session.
@@ -36,11 +36,11 @@ pub fn put_demo<Out: Sink>(
     session: &Session,
     greatest: u128,
 ) -> Result<(), Failed>
-    ensures bytes { Tells (Out.held out.old) (Out.held out.new) (Puts result (demo_text n (numerator session.now.slack) (denominator session.now.slack) (greatest_of (naturals session.now.bounds)) session.now.at.total_in session.now.at.total_out (sum session.now.at.queues) greatest)) }
-    ensures summary { (shown : Demonstrated session.now.net n session.now.at greatest) → Tells (Out.held out.old) (Out.held out.new) (Puts result (demo_summary n session.now.net (numerator session.now.slack) (denominator session.now.slack) (naturals session.now.bounds) shown.arrivals)) }
+    ensures bytes { Tells (Out.held out.old) (Out.held out.new) (Puts result (demo_text n (numerator session.now.slack) (denominator session.now.slack) (greatest_of (naturals session.now.bounds)) session.now.round.standing.total_in session.now.round.standing.total_out (sum session.now.round.standing.queues) greatest)) }
+    ensures summary { (shown : Demonstrated session.now.net n session.now.round.standing greatest) → Tells (Out.held out.old) (Out.held out.new) (Puts result (demo_summary n session.now.net (numerator session.now.slack) (denominator session.now.slack) (naturals session.now.bounds) shown.arrivals)) }
     ensures cause { HasCause (Out.faults out.old) (Out.faults out.new) result }
 {
-    let state = session.state();
+    let state = session.round().state();
     let (total_in, total_out) = (state.total_in(), state.total_out());
     let mut text = LineSink::new();
     push_text(&mut text, b"demo ");

@@ -13,5 +13,5 @@ push-requires c =
 
 pub returns-clause-drawn : goal.returns-clause-drawn
 returns-clause-drawn c =
-    filled_drawn c.args.session.now.net c.args.session.now.at c.args.words.now c.loop-l.words c.loop-l.into.items c.loop-l.l-index c.loop-l.invariant
+    filled_drawn c.args.session.now.net c.args.session.now.round.standing c.args.words.now c.loop-l.words c.loop-l.into.items c.loop-l.l-index c.loop-l.invariant
     (omega (arith, c.loop-l-test.false, ap length (c.fed-l-items.ensures ∙ ap fed c.net-net.ensures)))

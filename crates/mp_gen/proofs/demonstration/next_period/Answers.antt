@@ -5,6 +5,7 @@ use Rattle.mp_laws.specs.Buckets.{IsFirstAbove}
 use Rattle.mp_step.specs.Standing.{Stands}
 use Rattle.mp_step.specs.Taken.{HasTaken}
 use Rattle.mp_gen.proofs.Draws.{none_above}
+use Rattle.mp_gen.proofs.Periods.{advances}
 use Rattle.mp_gen.proofs.demonstration.next_period.Goals as goal
 
 pub unreachable-requires : goal.unreachable-requires
@@ -20,6 +21,6 @@ returns-clause-closes c =
     record {
       counts = c.fill.new.into.items;
       drawn = c.fill.ensures.drawn;
-      taken = λ A taken. subst (λ (counts : List ℕ). HasTaken net c.period.new.self.at (A ++ counts ∷ [])) c.deref.ensures.0 (c.in-Ok.ensures.taken A taken);
-      step = λ (state : State) stands. subst (λ (counts : List ℕ). Stands net c.period.new.self.at (advance net counts state)) c.deref.ensures.0 (c.in-Ok.ensures.step state stands);
+      taken = λ A taken. subst (λ (counts : List ℕ). HasTaken net c.close_all.new.self.round.standing (A ++ counts ∷ [])) c.deref.ensures.0 (c.in-Ok.ensures.advances.taken A taken);
+      step = λ (state : State) stands. subst (λ (counts : List ℕ). Stands net c.close_all.new.self.round.standing (advance net counts state)) c.deref.ensures.0 (advances net c.args.session.now.round.standing c.close_all.new.self.round.standing c.close_all.new.self.round.last _ (c.in-Ok.ensures.prompt c.requires.delay) c.in-Ok.ensures.advances.step state stands);
     }

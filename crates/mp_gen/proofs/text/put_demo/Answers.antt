@@ -3,6 +3,7 @@ use Rattle.mp_edge.specs.Outside.{Tells, Puts}
 use Rattle.mp_text.specs.Buffered.{Buffered}
 use Rattle.mp_num.specs.Fraction.{numerator, denominator}
 use Rattle.mp_press.specs.Queues.{naturals}
+use Rattle.mp_round.specs.RoundView.{RoundView}
 use Rattle.mp_step.specs.Standing.{Standing}
 use Rattle.mp_model.specs.Load.{greatest as greatest_of}
 use Rattle.mp_gen.proofs.Texts.{text_is, same_text, summary_is}
@@ -11,7 +12,7 @@ use Rattle.mp_gen.proofs.text.put_demo.Goals as goal
 pub returns-clause-bytes : goal.returns-clause-bytes
 returns-clause-bytes g c =
     let s = c.args.session.now in
-    let at = c.state-state.ensures.value in
+    let at = c.state-state.ensures ∙ ap (λ (round : RoundView). round.standing) c.round.ensures.value in
     let e = c.excess_of.result in
     let d = c.denominator_of.result in
     let b = c.greatest_of.result in
@@ -38,8 +39,8 @@ returns-clause-bytes g c =
     let conserved = subst (λ (st : Standing). st.total_in ≡ st.total_out + sum st.queues) at c.total_in-total_in.ensures.conserved in
     let total_in = c.total_in-total_in.ensures.value ∙ ap (λ (st : Standing). st.total_in) at in
     let total_out = c.total_out-total_out.ensures.value ∙ ap (λ (st : Standing). st.total_out) at in
-    let rest : i - o ≡ sum s.at.queues = omega (arith, conserved, total_in, total_out) in
-    let same = same_text c.args.n e (numerator s.slack) d (denominator s.slack) b (greatest_of (naturals s.bounds)) i s.at.total_in o s.at.total_out (i - o) (sum s.at.queues) c.args.greatest c.excess_of.ensures c.denominator_of.ensures (c.greatest_of.ensures ∙ ap (λ zs. greatest_of (naturals zs)) c.bounds.ensures) total_in total_out rest in
+    let rest : i - o ≡ sum s.round.standing.queues = omega (arith, conserved, total_in, total_out) in
+    let same = same_text c.args.n e (numerator s.slack) d (denominator s.slack) b (greatest_of (naturals s.bounds)) i s.round.standing.total_in o s.round.standing.total_out (i - o) (sum s.round.standing.queues) c.args.greatest c.excess_of.ensures c.denominator_of.ensures (c.greatest_of.ensures ∙ ap (λ zs. greatest_of (naturals zs)) c.bounds.ensures) total_in total_out rest in
     subst (λ (bytes : List ℕ). Tells (g.Out.Sink.held c.args.out.now) (g.Out.Sink.held c.put.new.self) (Puts c.put.result bytes))
     (c.bytes.ensures.value ∙ h16 ∙ text_is c.args.n e d b i o (i - o) c.args.greatest ∙ same) c.put.ensures.bytes
 
@@ -47,4 +48,4 @@ pub returns-clause-summary : goal.returns-clause-summary
 returns-clause-summary g c = λ shown.
     let s = c.args.session.now in
     subst (λ (bytes : List ℕ). Tells (g.Out.Sink.held c.args.out.now) (g.Out.Sink.held c.put.new.self) (Puts c.put.result bytes))
-    (summary_is c.args.n s.net (numerator s.slack) (denominator s.slack) (naturals s.bounds) s.at c.args.greatest c.state-state.ensures.bounded.on shown) (returns-clause-bytes g c)
+    (summary_is c.args.n s.net (numerator s.slack) (denominator s.slack) (naturals s.bounds) s.round.standing c.args.greatest c.round.ensures.kept.on.on shown) (returns-clause-bytes g c)
