@@ -25,10 +25,10 @@ use Rattle.mp_cert.specs.declared.types.CertFault.TheVariants as fault
 use Rattle.mp_cert.proofs.CheckLaw.{first_fault, complete}
 use Rattle.mp_verdict.specs.Laws.{IsAdmitted}
 use Rattle.mp_drift.specs.Bounded.{FindsGreatest, HoldsBounds}
-use Rattle.mp_drift.specs.Session.{IsRefused, Bounded, IsBounded}
+use Rattle.mp_drift.specs.Session.{IsRefused}
 use Rattle.mp_press.specs.Queues.{naturals}
 use Rattle.mp_run.proofs.BoundLemmas.{naturals_are}
-use Rattle.mp_session.specs.SessionView.{SessionView, IsBounded as IsBoundedByEvents}
+use Rattle.mp_session.specs.SessionView.{SessionView, IsBounded}
 use Rattle.mp_event_run.specs.Running.{StaysWithin as ReportsStayWithin}
 use Rattle.mp_drift.specs.declared.session.OpenFault.{OpenFault}
 use Rattle.mp_drift.specs.declared.session.OpenFault.TheVariants as opening
@@ -175,14 +175,9 @@ stood_by net ok cert slack numbers holds checked certifies is found =
     }
 
 -- what a session stands for behind its opening
-pub stood_of : (net : Network) (cert : Cert) (s : Bounded) → IsBounded s → s.net ≡ net → check_outcome net cert ≡ Ok tt → Certifies net cert → IsSlack cert (numerator s.slack) (denominator s.slack) → FindsGreatest net (numerator s.slack) (denominator s.slack) → Stood net cert (numerator s.slack) (denominator s.slack) (naturals s.bounds)
-stood_of net cert s bounded same checked certifies slack found =
-    stood_by net (subst IsNetwork same bounded.acceptable.network) cert s.slack s.bounds (subst (λ (n : Network). HoldsBounds n (numerator s.slack) (denominator s.slack) s.bounds) same bounded.bounds) checked certifies slack found
-
--- and one by events
-pub stood_events : (net : Network) (cert : Cert) (s : SessionView) → IsBoundedByEvents s → s.net ≡ net → check_outcome net cert ≡ Ok tt → Certifies net cert → IsSlack cert (numerator s.slack) (denominator s.slack) → FindsGreatest net (numerator s.slack) (denominator s.slack)
+pub stood_of : (net : Network) (cert : Cert) (s : SessionView) → IsBounded s → s.net ≡ net → check_outcome net cert ≡ Ok tt → Certifies net cert → IsSlack cert (numerator s.slack) (denominator s.slack) → FindsGreatest net (numerator s.slack) (denominator s.slack)
     → Stood net cert (numerator s.slack) (denominator s.slack) (naturals s.bounds)
-stood_events net cert s bounded same checked certifies slack found =
+stood_of net cert s bounded same checked certifies slack found =
     stood_by net (subst IsNetwork same bounded.acceptable.network) cert s.slack s.bounds (subst (λ (n : Network). HoldsBounds n (numerator s.slack) (denominator s.slack) s.bounds) same bounded.bounds) checked certifies slack found
 
 -- the header of a session is that of its parts
@@ -192,13 +187,13 @@ header_same n net f slack b bounds one two three =
     ∙ ap (λ (ns : List ℤ). text_of (header_lines net (numerator slack) (denominator slack) (naturals ns))) three
 
 -- the summary of a demonstration is that of its run under the certificate
-pub shown_run : (net : Network) (cert : Cert) (n : ℕ) (s s' : Bounded) (greatest : ℕ) (outcome : Outcome) (ports : Ports) → Stood net cert (numerator s.slack) (denominator s.slack) (naturals s.bounds) → s.net ≡ net → s' ≡ record s { at = s'.at; stages = s'.stages }
-    → Demonstrated s.net n s'.at greatest → ((shown : Demonstrated s'.net n s'.at greatest) → Answers outcome ports (demo_summary n s'.net (numerator s'.slack) (denominator s'.slack) (naturals s'.bounds) shown.arrivals)) → Opens net (IsShownRun outcome net n ports) cert
+pub shown_run : (net : Network) (cert : Cert) (n : ℕ) (s s' : SessionView) (greatest : ℕ) (outcome : Outcome) (ports : Ports) → Stood net cert (numerator s.slack) (denominator s.slack) (naturals s.bounds) → s.net ≡ net → s' ≡ record s { round = s'.round }
+    → Demonstrated s.net n s'.round.standing greatest → ((shown : Demonstrated s'.net n s'.round.standing greatest) → Answers outcome ports (demo_summary n s'.net (numerator s'.slack) (denominator s'.slack) (naturals s'.bounds) shown.arrivals)) → Opens net (IsShownRun outcome net n ports) cert
 shown_run net cert n s s' greatest outcome ports stood on same shown told =
-    let net_same : s'.net ≡ s.net = ap (λ (b : Bounded). b.net) same in
-    let slack_kept : s'.slack ≡ s.slack = ap (λ (b : Bounded). b.slack) same in
-    let bounds_same : s'.bounds ≡ s.bounds = ap (λ (b : Bounded). b.bounds) same in
-    let there : Demonstrated s'.net n s'.at greatest = subst (λ (m : Network). Demonstrated m n s'.at greatest) (sym net_same) shown in
+    let net_same : s'.net ≡ s.net = ap (λ (b : SessionView). b.net) same in
+    let slack_kept : s'.slack ≡ s.slack = ap (λ (b : SessionView). b.slack) same in
+    let bounds_same : s'.bounds ≡ s.bounds = ap (λ (b : SessionView). b.bounds) same in
+    let there : Demonstrated s'.net n s'.round.standing greatest = subst (λ (m : Network). Demonstrated m n s'.round.standing greatest) (sym net_same) shown in
     let A = there.arrivals in
     let written =
     subst (λ (m : Network). Answers outcome ports (demo_summary n m (numerator s.slack) (denominator s.slack) (naturals s.bounds) A)) (net_same ∙ on)

@@ -29,8 +29,8 @@ fn show_under<Out: Sink>(alloc: Global, net: &Net, n: u64, cert: &Cert, out: &mu
         Ok(session) => session,
         Err(outcome) => return outcome,
     };
-    // A session's state comes with what the session keeps.
-    let _ = session.state();
+    // A session's round comes with what the session keeps.
+    let _ = session.round();
     let greatest = demonstrate(&mut session, n);
     match put_demo(out, n, &session, greatest) {
         Ok(()) => Outcome::Done,

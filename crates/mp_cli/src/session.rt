@@ -19,10 +19,10 @@ ghost use Rattle.mp_cli.specs.Verdicts.{IsUnadmitted, OfAdmitted};
 use crate::outcome::{Outcome, broken_rule};
 use mp_admit::{Verdict, admit};
 use mp_cert::{Cert, CertFault};
-use mp_drift::{OpenFault, Session};
+use mp_drift::OpenFault;
 use mp_flow::{CalcFault, Place};
 use mp_net::Net;
-use mp_session::Session as EventSession;
+use mp_session::Session;
 use std::alloc::Global;
 
 /// The outcome of a certificate that is not accepted.
@@ -82,35 +82,13 @@ pub fn open_session<'a>(alloc: Global, net: &'a Net, cert: &Cert) -> Result<Sess
     ensures certifies { IfOk result (λ s. Certifies net.now (cert_of cert.now)) }
     ensures slack { IfOk result (λ s. IsSlack (cert_of cert.now) (numerator s.slack) (denominator s.slack)) }
     ensures found { IfOk result (λ s. FindsGreatest net.now (numerator s.slack) (denominator s.slack)) }
-    ensures opening { IfOk result (λ s. Stands net.now s.at (opening net.now)) }
-    ensures taken { IfOk result (λ s. HasTaken net.now s.at []) }
-    ensures refused { IfErr result (λ outcome. IsUnaccepted outcome net.now (cert_of cert.now)) }
-    ensures inside { IfErr result HasNoFault }
-{
-    match Session::open(alloc, net, cert) {
-        Ok(session) => Ok(session),
-        Err(fault) => Err(outcome_of_opening(fault)),
-    }
-}
-
-/// Opens a session by events under a certificate.
-pub fn open_events<'a>(
-    alloc: Global,
-    net: &'a Net,
-    cert: &Cert,
-) -> Result<EventSession<'a>, Outcome>
-    requires { HasLengths net.now (cert_of cert.now) }
-    ensures net { IfOk result (λ s. s.net ≡ net.now) }
-    ensures checked { OnOk result (IsAccepted net.now (cert_of cert.now)) }
-    ensures certifies { IfOk result (λ s. Certifies net.now (cert_of cert.now)) }
-    ensures slack { IfOk result (λ s. IsSlack (cert_of cert.now) (numerator s.slack) (denominator s.slack)) }
-    ensures found { IfOk result (λ s. FindsGreatest net.now (numerator s.slack) (denominator s.slack)) }
     ensures opening { IfOk result (λ s. core_of s.round ≡ core_opening net.now) }
+    ensures stands { IfOk result (λ s. Stands net.now s.round.standing (opening net.now)) }
     ensures taken { IfOk result (λ s. HasTaken net.now s.round.standing []) }
     ensures refused { IfErr result (λ outcome. IsUnaccepted outcome net.now (cert_of cert.now)) }
     ensures inside { IfErr result HasNoFault }
 {
-    match EventSession::open(alloc, net, cert) {
+    match Session::open(alloc, net, cert) {
         Ok(session) => Ok(session),
         Err(fault) => Err(outcome_of_opening(fault)),
     }

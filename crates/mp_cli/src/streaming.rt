@@ -9,7 +9,7 @@ ghost use Rattle.mp_cli.specs.Statuses.{status_of};
 
 use crate::ending::outcome_of_run;
 use crate::outcome::Outcome;
-use crate::session::open_events;
+use crate::session::open_session;
 use mp_cert::Cert;
 use mp_edge::{Failed, Sink, Source};
 use mp_event_run::run_stream;
@@ -32,7 +32,7 @@ pub fn stream_under<In: Source, Out: Sink>(
     ensures read { status_of result ≡ 10 → Rose (In.faults input.old) (In.faults input.new) }
     ensures write { status_of result ≡ 11 → Rose (Out.faults out.old) (Out.faults out.new) }
 {
-    let mut session = match open_events(alloc, net, cert) {
+    let mut session = match open_session(alloc, net, cert) {
         Ok(session) => session,
         Err(outcome) => return outcome,
     };

@@ -10,7 +10,7 @@ use Rattle.mp_event_audit.specs.Auditing.{AuditsAs}
 use Rattle.mp_run.specs.declared.auditing.AuditEnd.{AuditEnd}
 use Rattle.mp_cli.specs.Ports.{Ports}
 use Rattle.mp_cli.proofs.AuditLemmas.{ended}
-use Rattle.mp_cli.proofs.SessionLemmas.{stood_events, opens_with}
+use Rattle.mp_cli.proofs.SessionLemmas.{stood_of, opens_with}
 use Rattle.mp_cli.proofs.auditing.audit_under.Goals as goal
 
 -- what the audit of the session's network says of the one that was handed in
@@ -33,7 +33,7 @@ returns-clause-so g c = λ files.
     let left = g.In.Source.left c.args.input.now in
     let rest = g.In.Source.left c.audit.new.input in
     let ports : Ports = record { files = files; input_before = left; input_after = rest; output_before = g.Out.Sink.held c.args.out.now; output_after = g.Out.Sink.held c.tell_end.new.out } in
-    let stood = stood_events net (cert_of c.args.cert.now) s c.round.ensures.kept c.in-Ok.ensures.net c.in-Ok.ensures.checked c.in-Ok.ensures.certifies c.in-Ok.ensures.slack c.in-Ok.ensures.found in
+    let stood = stood_of net (cert_of c.args.cert.now) s c.round.ensures.kept c.in-Ok.ensures.net c.in-Ok.ensures.checked c.in-Ok.ensures.certifies c.in-Ok.ensures.slack c.in-Ok.ensures.found in
     let ends = ended c.tell_end.result ports (λ (how : AuditEnd). how ≡ c.audit.result) (λ (how : AuditEnd). AuditsAs net (numerator s.slack) (denominator s.slack) (naturals s.bounds) how left rest)
     (λ how is. ends_so s.net net (numerator s.slack) (denominator s.slack) (naturals s.bounds) c.audit.result how left rest c.in-Ok.ensures.net is c.audit.ensures.ends)
     (c.tell_end.ensures.so files left rest) in

@@ -16,7 +16,7 @@ use Rattle.mp_cli.specs.Ports.{Ports}
 use Rattle.mp_cli.specs.Running.{RunsTo}
 use Rattle.mp_cli.specs.Streaming.{OnEvents}
 use Rattle.mp_cli.proofs.EventLemmas.{of_run}
-use Rattle.mp_cli.proofs.SessionLemmas.{stood_events, opens_with, header_same}
+use Rattle.mp_cli.proofs.SessionLemmas.{stood_of, opens_with, header_same}
 use Rattle.mp_cli.proofs.streaming.stream_under.Goals as goal
 
 pub run_stream-requires : goal.run_stream-requires
@@ -32,7 +32,7 @@ returns-in-Err-put_header-clause-so g c = λ files.
     let left = g.In.Source.left c.args.input.now in
     let was = g.Out.Sink.held c.args.out.now in
     let now = g.Out.Sink.held c.put_header.new.out in
-    let stood = stood_events net (cert_of c.args.cert.now) session c.round.ensures.kept c.in-Ok.ensures.net c.in-Ok.ensures.checked c.in-Ok.ensures.certifies c.in-Ok.ensures.slack c.in-Ok.ensures.found in
+    let stood = stood_of net (cert_of c.args.cert.now) session c.round.ensures.kept c.in-Ok.ensures.net c.in-Ok.ensures.checked c.in-Ok.ensures.certifies c.in-Ok.ensures.slack c.in-Ok.ensures.found in
     let head = header_same c.net.result.now net c.slack.result.now session.slack c.bounds.result.now session.bounds (c.net.ensures ∙ c.in-Ok.ensures.net) c.slack.ensures c.bounds.ensures in
     let whole = text_of (header_lines net (numerator session.slack) (denominator session.slack) (naturals session.bounds)) in
     let cut = subst (λ (text : List ℕ). Tells was now (GainsPrefix text)) head c.in-Err-put_header.ensures.bytes in
@@ -50,7 +50,7 @@ returns-clause-so g c = λ files.
     let mid = g.Out.Sink.held c.put_header.new.out in
     let now = g.Out.Sink.held c.run_stream.new.out in
     let ports : Ports = record { files = files; input_before = left; input_after = rest; output_before = was; output_after = now } in
-    let stood = stood_events net (cert_of c.args.cert.now) session c.round.ensures.kept c.in-Ok.ensures.net c.in-Ok.ensures.checked c.in-Ok.ensures.certifies c.in-Ok.ensures.slack c.in-Ok.ensures.found in
+    let stood = stood_of net (cert_of c.args.cert.now) session c.round.ensures.kept c.in-Ok.ensures.net c.in-Ok.ensures.checked c.in-Ok.ensures.certifies c.in-Ok.ensures.slack c.in-Ok.ensures.found in
     let head = header_same c.net.result.now net c.slack.result.now session.slack c.bounds.result.now session.bounds (c.net.ensures ∙ c.in-Ok.ensures.net) c.slack.ensures c.bounds.ensures in
     let whole = text_of (header_lines net (numerator session.slack) (denominator session.slack) (naturals session.bounds)) in
     let told = subst (λ (text : List ℕ). Tells was mid (λ before after. after ≡ before ++ text)) head c.in_default.ensures.bytes in
