@@ -1,6 +1,7 @@
 //! What the crates below the program answer.
 
 use crate::certificates::{checked, read_certificate, read_vector, weighed};
+use crate::demonstrations::{demonstration, drawn};
 use crate::digits::written;
 use crate::files::{Files, Stop, lines, word};
 use crate::guards::{found, read};
@@ -8,7 +9,7 @@ use crate::networks::{network, shown};
 use crate::numbers::{bounds_under, drift_numbers, flow_pair, verdict, worths};
 use crate::periods::{periods, weights};
 use crate::rules::{answer, pairs, rows};
-use crate::sessions::{demonstration, drawn, greediest, refusal, session};
+use crate::sessions::{greediest, refusal, session};
 use mp_net::Net;
 use std::alloc::Global;
 

@@ -7,6 +7,7 @@
 mod asking;
 mod calls;
 mod certificates;
+mod demonstrations;
 mod digits;
 mod failing;
 mod files;
