@@ -383,7 +383,7 @@ completes (Overload net) outcome ports quiet good means =
     goes 0 outcome means (network_memory outcome ports.files net _ quiet good) (λ reads.
     let on = of_good file_meaning ports.files net _ _ good reads in
     goes 0 outcome on.1 (overloaded_memory outcome good.value good.is) (λ found.
-    goes 0 outcome (of_overloaded good.value _ good.is found) (told_memory outcome good.value good.is) (λ writes. written_done outcome ports _ quiet writes.1.answers.1)))
+    goes 0 outcome (of_overloaded good.value _ good.is found) (told_memory outcome good.value good.is) (λ writes. written_done outcome ports _ quiet writes.2.answers.1)))
 completes (Frames net F) outcome ports quiet good means = frames_ends 0 net F (λ n. IsGoodStream n ports.input_before) outcome ports quiet good means (good_run outcome ports quiet)
 completes (Plan net C) outcome ports quiet good means = plan_ends 0 net C (λ n. IsGoodStream n ports.input_before) outcome ports quiet good means (good_run outcome ports quiet)
 completes (Guard net cycle lost d) outcome ports quiet good means =

@@ -144,7 +144,7 @@ does_done (AuditWith net cert) ports means =
 does_done (Control net) ports means = absurd (went means (λ no. no)).is.1
 does_done (Demo n) ports means = greatest_of Done (demo_network n) ports _ _ (λ cert no. no) (λ num den bounds is. is) (went means (λ no. no))
 does_done (Scale net d) ports means = of_reads file_meaning ports.files net _ _ (went means (λ no. no)) (λ n on. let found = went on.1 (λ no. no) in (found.cert, found.is))
-does_done (Overload net) ports means = of_reads file_meaning ports.files net _ _ (went means (λ no. no)) (λ n on. let found = went on.1 (λ no. no) in (found.vector, (went found.is (λ no. no)).1))
+does_done (Overload net) ports means = of_reads file_meaning ports.files net _ _ (went means (λ no. no)) (λ n on. let found = went on.1 (λ no. no) in (found.vector, (went found.is (λ no. no)).2))
 does_done (Frames net F) ports means = absurd (went (went ((went ((went means (λ no. no)).is.1) (λ no. no)).1) (λ no. no)).is (λ no. no)).holds.is.1
 does_done (Plan net C) ports means = absurd (went ((went means (λ no. no)).is.1) (λ no. no)).is
 does_done (Guard net cycle lost d) ports means = of_reads file_meaning ports.files net _ _ (went means (λ no. no)) (λ n on. let found = went on.1 (λ no. no) in (found.guard, (went found.is (λ no. no)).1))
@@ -178,7 +178,7 @@ does_run (Demo n) ports means =
     let none : HoldsWithGreatest (demo_network n) (λ num den bounds. ⊥) = greatest_of (Ran how.Done) (demo_network n) ports (IsShownRun (Ran how.Done) (demo_network n) n ports) _ (λ cert no. no) (λ num den bounds is. is.answers.1) (went means (λ no. no)) in
     absurd none.holds.is
 does_run (Scale net d) ports means = absurd (went ((went means (λ no. no)).is.1) (λ no. no)).is.answers.1
-does_run (Overload net) ports means = absurd (went (went ((went means (λ no. no)).is.1) (λ no. no)).is (λ no. no)).1.answers.1
+does_run (Overload net) ports means = absurd (went (went ((went means (λ no. no)).is.1) (λ no. no)).is (λ no. no)).2.answers.1
 does_run (Frames net F) ports means =
     of_reads file_meaning ports.files net _ (λ n. FramesHoldGreatest n F (WritesFramedLog n F ports)) (went means (λ no. no)) (λ n on.
     let framed = went on.1 (λ no. no) in

@@ -104,9 +104,9 @@ IsUntold GrowthOverflow net vector = (uneven_link net ≡ None) × IsFormed net 
 IsUntold NoMemory net vector = Unit {0}
 IsUntold outcome net vector = ⊥
 
--- This is what each outcome says of `overload`: on the network of the file, as it is overloaded, the growth of the vector that shows it was put.
+-- This is what each outcome says of `overload`: on the network of the file, as it is overloaded and no fed link is uneven, the growth of the vector that shows it was put.
 abbrev pub Overloads : Outcome → List ℕ → Ports → Type 0
 Overloads outcome name ports =
     OnNetwork outcome name ports (λ net.
     RefusedOr (IsNotOverloaded outcome net) ports (OfOverloaded net (λ vector.
-    RefusedOr (IsUntold outcome net vector) ports (IsTold net vector × WritesGrowth outcome net ports vector))))
+    RefusedOr (IsUntold outcome net vector) ports ((uneven_link net ≡ None) × IsTold net vector × WritesGrowth outcome net ports vector))))

@@ -1,9 +1,10 @@
 //! How fast an overloaded network grows, whatever its junctions show.
-ghost use Rattle.std.specs.Prelude.{◌≡◌, ◌+◌, ◌++◌, ◌<◌, ◌≤ℤ◌, ℕ, List, Option, All, IfOk, IfErr, pos, length};
+ghost use Rattle.std.specs.Prelude.{◌≡◌, ◌+◌, ◌++◌, ◌<◌, ◌≤ℤ◌, ℕ, List, Option, None, All, IfOk, IfErr, OnOk, pos, length};
 ghost use Rattle.mp_edge.specs.Outside.{Rose, Tells, Puts, HasCause};
 ghost use Rattle.mp_model.specs.Run.{opening};
 ghost use Rattle.mp_step.specs.Standing.{Stands};
 ghost use Rattle.mp_growth.specs.OnTrail.{IsTrail};
+ghost use Rattle.mp_overload.specs.Evens.{uneven_link};
 ghost use Rattle.mp_cli.specs.Outcomes.{outcome_of_growth, outcome_of_trail};
 ghost use Rattle.mp_cli.specs.Overloading.{Overloads, IsNotOverloaded, IsUntold, told_run, told_queues, told_formed, growth_line, periods_line, told_text, StepsGreatest, IsSo};
 ghost use Rattle.mp_cli.specs.Statuses.{status_of, HasNoFault};
@@ -104,6 +105,7 @@ fn run_evenly(net: &Net, trail: &mut Trail)
 fn tell(alloc: Global, net: &Net, against: &Against) -> Result<Told, Outcome>
     requires lengths { length against.now.p ≡ length net.now.movements }
     requires signs { All (λ x. pos 0 ≤ℤ x) against.now.p }
+    ensures even { OnOk result (uneven_link net.now ≡ None) }
     ensures told { IfOk result (λ told. told_formed net.now PERIODS against.now.p (told_queues net.now) ≡ Some told) }
     ensures so { IfOk result (λ told. IsSo net.now against.now.p told) }
     ensures refused { IfErr result (λ outcome. IsUntold outcome net.now against.now.p) }

@@ -28,7 +28,7 @@ returns-in-Ok-put_told-clause-means g c = λ left.
       inr (record {
         vector = c.in-Ok-overloaded.against.p;
         shown = c.in-Ok-overloaded.ensures.shown;
-        is = inr ((c.in-Ok-tell.told, c.in-Ok-tell.ensures.told), writes_growth c.in-Ok.net c.in-Ok-overloaded.against.p c.in-Ok-tell.told _ _ c.in-Ok.ensures.acceptable.network c.in-Ok-overloaded.ensures.shown c.in-Ok-tell.ensures.so (refl, c.in-Ok-put_told.ensures.bytes));
+        is = inr (c.in-Ok-tell.ensures.even, (c.in-Ok-tell.told, c.in-Ok-tell.ensures.told), writes_growth c.in-Ok.net c.in-Ok-overloaded.against.p c.in-Ok-tell.told _ _ c.in-Ok.ensures.acceptable.network c.in-Ok-overloaded.ensures.shown c.in-Ok-tell.ensures.so (refl, c.in-Ok-put_told.ensures.bytes));
       }),
     ))
 
@@ -39,6 +39,6 @@ returns-clause-means g c = λ left.
       inr (record {
         vector = c.in-Ok-overloaded.against.p;
         shown = c.in-Ok-overloaded.ensures.shown;
-        is = inr ((c.in-Ok-tell.told, c.in-Ok-tell.ensures.told), writes_growth c.in-Ok.net c.in-Ok-overloaded.against.p c.in-Ok-tell.told _ _ c.in-Ok.ensures.acceptable.network c.in-Ok-overloaded.ensures.shown c.in-Ok-tell.ensures.so (refl, c.in-Err-put_told.ensures.bytes));
+        is = inr (c.in-Ok-tell.ensures.even, (c.in-Ok-tell.told, c.in-Ok-tell.ensures.told), writes_growth c.in-Ok.net c.in-Ok-overloaded.against.p c.in-Ok-tell.told _ _ c.in-Ok.ensures.acceptable.network c.in-Ok-overloaded.ensures.shown c.in-Ok-tell.ensures.so (refl, c.in-Err-put_told.ensures.bytes));
       }),
     ))
