@@ -124,6 +124,10 @@ OTHERS = {
     "line {n} grammar": "line {n} isn't in the grammar; a stream has {fed} counts here, with commas, one for each of {links}",
     "line {n} above period {w} link {link}": "in period {w} (line {n}) more come to link {link} than its burst of {burst} and its rate of "
     "{rate} per {per} periods allow: declare more (`mp demand` finds the least burst), or hold some back",
+    "line {n} event stale {junction} link {link}": "in line {n} junction {junction} is to decide, and has no report of link {link} that is "
+    "young enough: let it hear that link first",
+    "line {n} event notadjacent {junction} link {link}": "in line {n} junction {junction} is to hear of link {link}, to which none of its "
+    "movements leads",
     "lines": "the input has more than 2^48 lines",
     "read": "the input broke off by a fault of the system",
     "write": "the output couldn't be written (a full disk, a closed pipe); what is there is a part",

@@ -153,7 +153,8 @@ class Lines(Case):
                 ("overflow room", "2^62"), ("store x.toml", "x.toml couldn't"), ("vector text line 2", "line 2 of the vector's"),
                 ("line 3 grammar", "2 counts here"), ("log differs line 6", "line 6 isn't what"), ("guard full 1", "greens of junction j"),
                 ("network overloaded", "`mp explain NET`"), ("uneven link 2", "link b has no burst and a rate of 1"),
-                ("plan full junction 1", "greens of junction j"), ("frames per", "4 periods"), ("sweeps bound", "smaller denominator")):
+                ("plan full junction 1", "greens of junction j"), ("frames per", "4 periods"), ("sweeps bound", "smaller denominator"),
+                ("line 2 event stale junction 1 link 2", "no report of link b"), ("line 2 event notadjacent junction 1 link 2", "to hear of link b")):
             with self.subTest(line), written(two(1).text()) as path:
                 self.assertIn(words, lines.meaning(line, path))
         with open(os.path.join(HERE, "../docs/formats.md")) as file, written(two(1).text()) as path:   # each that it lists
