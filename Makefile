@@ -3,7 +3,7 @@
 PREFIX ?= /usr/local
 
 .DEFAULT_GOAL := help
-.PHONY: help run build test docs tools-test compare bench controls fmt install clean
+.PHONY: help run build test docs tools-test compare memory hostile bench controls fmt install clean
 
 help: ## list these targets
 	@echo "README.md is the first page. The targets:"
@@ -28,6 +28,12 @@ tools-test: ## test the Python tools in tools/
 
 compare: maxpressure ## compare ./maxpressure with a slow model over 1,000 networks, and attack 1,000 guards (4 minutes)
 	python3 -B .ci/compare.py maxpressure 1000
+
+memory: maxpressure ## refuse ./maxpressure each request of memory, in each command (2 minutes)
+	python3 -B .ci/memory.py maxpressure
+
+hostile: maxpressure ## hand ./maxpressure 1,000,000 hostile texts (40 minutes; HOSTILE="--count 20000" for fewer)
+	python3 -B .ci/hostile.py maxpressure $(HOSTILE)
 
 bench: ## time ./maxpressure beside plain Rust, and print the table of docs/speed.md
 	bash bench/run.sh
