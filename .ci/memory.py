@@ -19,7 +19,7 @@ from spawn import EXAMPLES, TOP, Spawner
 
 ALL = 2**64 - 1
 WANT = (12, b"", b"memory\n")
-COMPILERS = "cc", "gcc", "clang", "/opt/rattle/toolchain/bin/clang"
+COMPILERS = "cc", "gcc", "clang"
 # What is typed, and the file on the standard input. The files of the commands are made by the program itself.
 RUNS = [
     (["run", "corridor.toml"], "corridor.stream"),
@@ -74,8 +74,7 @@ def build(folder):
     """The shim, made by the first compiler that is there."""
     compiler = next(filter(None, map(shutil.which, COMPILERS)), None) or sys.exit(f"memory: none of {', '.join(COMPILERS)} is there")
     shim = Path(folder, "refuse.so")
-    linked = ["-nostdlib", "-fuse-ld=lld"] if compiler == COMPILERS[-1] else []
-    subprocess.run([compiler, "-O2", "-fPIC", "-shared", *linked, "-o", shim, TOP / ".ci/refuse.c"], check=True)
+    subprocess.run([compiler, "-O2", "-fPIC", "-shared", "-o", shim, TOP / ".ci/refuse.c"], check=True)
     return shim
 
 

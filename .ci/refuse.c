@@ -1,6 +1,6 @@
 /* A shim for LD_PRELOAD that counts requests of memory and refuses those of a range. The first pages of the file that is
    descriptor 3 hold how many were asked for, and the first and the last that are refused, counted from 1; .ci/memory.py
-   writes the range before a run and reads the count after it. No header is needed, since the kit's compiler has none. */
+   writes the range before a run and reads the count after it. */
 typedef __SIZE_TYPE__ size_t;
 enum { ENOMEM = 12, PROT_READ_WRITE = 3, MAP_SHARED = 1 };
 
